@@ -1,0 +1,3 @@
+pub mod Relists
+pub mod Copies
+pub mod Summary
