@@ -15,6 +15,8 @@ ghost use Rattle.line_reader.specs.Parts.{Leading, Reads, Passes, agree, Level
 use events::Level;
 use lines::FormFault;
 
+pub mod line;
+
 // A field of a line.
 #[derive(Clone, Copy)]
 pub enum Field<'a> {
@@ -49,7 +51,7 @@ impl Field<'_> {
     }
 
     // The column after the byte that ends the field.
-    pub fn next(&self) -> usize
+    fn next(&self) -> usize
         requires { ⌜ endOf (now self) < 200 ⌝ }
         ensures { λ r. ⌜ r ≡ nextOf (now (self .entry)) ⌝ }
     {
@@ -57,7 +59,7 @@ impl Field<'_> {
     }
 
     // The number that the field says: the level's code for a word, 0 for a version.
-    pub fn value(&self) -> u16
+    fn value(&self) -> u16
         ensures { λ r. ⌜ r ≡ numberOf (now (self .entry)) ⌝ }
     {
         match self {
@@ -68,7 +70,7 @@ impl Field<'_> {
     }
 
     // The version that the field says; the initial one for another field.
-    pub fn version(&self) -> (u16, u16)
+    fn version(&self) -> (u16, u16)
         ensures { λ r. ⌜ r ≡ versionOf (now (self .entry)) ⌝ }
     {
         match self {
@@ -105,7 +107,7 @@ fn number_on(value: u16, text: &[u8]) -> (u16, usize)
 }
 
 // The text after one given byte.
-pub fn after(text: &[u8], mark: u8, column: usize) -> Result<&[u8], FormFault>
+fn after(text: &[u8], mark: u8, column: usize) -> Result<&[u8], FormFault>
     ensures { λ r. ⌜ Passes mark column (now (text .entry)) r ⌝ }
 {
     match text {
@@ -126,7 +128,7 @@ fn leading(text: &[u8]) -> Option<(u16, usize)>
 }
 
 // The number that leads the text, with the byte that ends it, and the text after that.
-pub fn number(text: &[u8], mark: u8, column: usize) -> Result<(Field<'_>, &[u8]), FormFault>
+fn number(text: &[u8], mark: u8, column: usize) -> Result<(Field<'_>, &[u8]), FormFault>
     requires { ⌜ column < 100 ⌝ }
     ensures { λ r. ⌜ Reads 5 mark (grammar.number mark) numberOf column (now (text .entry)) r ⌝ }
 {
@@ -144,7 +146,7 @@ pub fn number(text: &[u8], mark: u8, column: usize) -> Result<(Field<'_>, &[u8])
 }
 
 // The version that leads the text, with the byte that ends it: the writer, a point and the modification.
-pub fn version(text: &[u8], mark: u8, column: usize) -> Result<(Field<'_>, &[u8]), FormFault>
+fn version(text: &[u8], mark: u8, column: usize) -> Result<(Field<'_>, &[u8]), FormFault>
     requires { ⌜ column < 80 ⌝ }
     ensures { λ r. ⌜ Reads 11 mark (versionPart mark) versionOf column (now (text .entry)) r ⌝ }
 {
@@ -196,7 +198,7 @@ fn level_named(word: &[u8]) -> Option<Level>
 }
 
 // The level's word that leads the text, with the byte that ends it.
-pub fn level(text: &[u8], mark: u8, column: usize) -> Result<(Field<'_>, &[u8]), FormFault>
+fn level(text: &[u8], mark: u8, column: usize) -> Result<(Field<'_>, &[u8]), FormFault>
     requires { ⌜ column < 100 ⌝ }
     ensures { λ r. ⌜ Reads 4 mark (levelPart mark) numberOf column (now (text .entry)) r ⌝ }
 {

@@ -7,7 +7,7 @@ use Rattle.std.specs.declared.option.Option.the-variants.{None}
 use Rattle.events.specs.declared.Event.{Event}
 use Rattle.events.specs.declared.Event.the-variants.{Blank, Begin, Read, Write, Commit, Abort}
 use Rattle.events.specs.Numbers.{levelFrom}
-use Rattle.events.specs.Questions.{isTransaction, isItem}
+use Rattle.events.specs.Questions.{isTransaction, isItem, isMade, isOwn}
 use Rattle.transactions.specs.declared.table.Stage.{Stage}
 use Rattle.transactions.specs.declared.table.Stage.the-variants.{NotBegun, Running, Committed, Aborted}
 use Rattle.transactions.specs.declared.table.Entry.{Entry}
@@ -62,6 +62,10 @@ isRunning table t = runningIn (entryOf table t .stage)
 
 abbrev pub madeBy : TransactionTable → ℕ → ℕ → ℕ
 madeBy table t x = writesOf table t x .made
+
+-- the question that refuses a read by a running transaction, of those that only reads and writes are asked; 0 where none does
+abbrev pub readAnswer : (ℕ → ℕ → ℕ) → ℕ → ℕ → ℕ × ℕ → ℕ
+readAnswer made t x v = cond (isItem x) (cond (isMade (made (v .0) x) (v .0) (v .1)) (cond (isOwn (made t x) t (v .0) (v .1)) 0 8) 7) 6
 
 -- a begin with level code l at position p, a commit at p, and an abort, by the stage that they find
 abbrev pub began : Entry → ℕ → ℕ → Stage → Entry

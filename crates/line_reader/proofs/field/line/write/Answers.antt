@@ -1,0 +1,6 @@
+use borrow.Author.Needs.{needs}
+use Rattle.lines.proofs.Steps.{done-on}
+use Rattle.line_reader.proofs.field.line.write.Needs as need
+
+pub returns : need.returns
+returns c = search (needs, c .in-Continue-transaction .ensures tt .on, c .in-Continue-item .ensures tt .on, done-on)

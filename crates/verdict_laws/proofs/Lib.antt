@@ -1,0 +1,14 @@
+pub mod Lists
+pub mod Splits
+pub mod Strict
+pub mod Admissions
+pub mod Versions
+pub mod Next
+pub mod Placements
+pub mod Readers
+pub mod Clean
+pub mod Walks
+pub mod Scripts
+pub mod Fronts
+pub mod Reruns
+pub mod Orders

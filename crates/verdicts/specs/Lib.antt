@@ -1,0 +1,11 @@
+pub mod Names
+pub mod Versions
+pub mod Edges
+pub mod Walks
+pub mod Orders
+pub mod Findings
+pub mod Verdicts
+pub mod Grades
+pub mod Reruns
+pub mod KnownRuns
+pub mod Claims
