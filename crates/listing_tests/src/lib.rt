@@ -5,31 +5,43 @@ mod texts;
 
 #[cfg(test)]
 mod tests {
-    use crate::texts::FAULTS;
+    use crate::texts::NO_FORMS;
+    use crate::texts::REFUSED;
     use crate::texts::WHOLE;
     use relisting::relist;
     use relisting::summary;
+    use std::alloc::Global;
     use std::test::*;
 
-    #[test]
-    fn each_fault_has_its_number_layer_line_and_column(rt: LibcRuntime) -> Result<(), Fail> {
-        for (text, expected) in FAULTS {
-            let relisted = relist(rt.alloc(), text.as_bytes())?;
-            let line = summary(rt.alloc(), relisted.outcome)?;
-            check(line.as_str() == expected).note(text)?;
-            check(text.as_bytes().starts_with(relisted.text.as_slice())).note(text)?;
+    // The summary of a text, whose lines before its fault come out as they went in.
+    fn outcome(heap: Global, text: &str) -> Result<String, Fail> {
+        let relisted = relist(heap, text.as_bytes())?;
+        check(text.as_bytes().starts_with(relisted.text.as_slice())).note(text)?;
+        Ok(summary(heap, relisted.outcome)?)
+    }
+
+    // Each text has the summary beside it.
+    fn all_match(heap: Global, table: &[(&str, &str)]) -> Result<(), Fail> {
+        for (text, expected) in table {
+            let line = outcome(heap, text)?;
+            check(line.as_str() == *expected).note(text)?;
         }
         Ok(())
     }
 
     #[test]
+    fn each_text_that_is_no_line_has_its_column(rt: LibcRuntime) -> Result<(), Fail> {
+        all_match(rt.alloc(), &NO_FORMS)
+    }
+
+    #[test]
+    fn each_refused_event_has_its_number(rt: LibcRuntime) -> Result<(), Fail> {
+        all_match(rt.alloc(), &REFUSED)
+    }
+
+    #[test]
     fn whole_texts_come_out_the_same(rt: LibcRuntime) -> Result<(), Fail> {
-        for text in WHOLE {
-            let relisted = relist(rt.alloc(), text.as_bytes())?;
-            check(relisted.text.as_slice() == text.as_bytes()).note(text)?;
-            check(relisted.outcome.is_ok()).note(text)?;
-        }
-        Ok(())
+        all_match(rt.alloc(), &WHOLE)
     }
 
     #[test]

@@ -1,7 +1,7 @@
-// Texts with what is expected of them.
+// Texts, each with the summary that is expected of it.
 
-// Texts with a fault, and the summary that names it.
-pub const FAULTS: [(&str, &str); 70] = [
+// Texts in which some line is none of the five forms.
+pub const NO_FORMS: [(&str, &str); 47] = [
     ("\n", "fault 15 listing 1 1\n"),
     (" \n", "fault 15 listing 1 1\n"),
     ("B 1 SI\n", "fault 15 listing 1 1\n"),
@@ -49,6 +49,10 @@ pub const FAULTS: [(&str, &str); 70] = [
     ("b 300 XX\n", "fault 15 listing 1 7\n"),
     ("b 1 SI\nw 1 1\nq\nc 1\n", "fault 15 listing 3 1\n"),
     ("b 1 SI\n\n", "fault 15 listing 2 1\n"),
+];
+
+// Texts in which some event is refused.
+pub const REFUSED: [(&str, &str); 19] = [
     ("c 65535\n", "fault 1 recorder 1 1\n"),
     ("b 0 SI\n", "fault 1 recorder 1 1\n"),
     ("b 257 SI\n", "fault 1 recorder 1 1\n"),
@@ -68,30 +72,29 @@ pub const FAULTS: [(&str, &str); 70] = [
     ("b 1 SI\nw 1 1\nr 1 1 1.2\n", "fault 7 recorder 3 1\n"),
     ("b 1 SI\nw 1 1\nr 1 2 1.1\n", "fault 7 recorder 3 1\n"),
     ("b 1 SI\nw 1 1\nr 1 1 0.0\n", "fault 8 recorder 3 1\n"),
-    (
-        "b 1 SI\nw 1 1\nw 1 1\nr 1 1 1.1\n",
-        "fault 8 recorder 4 1\n",
-    ),
-    (
-        "b 1 SI\nb 2 SI\nw 2 1\nw 1 1\nr 1 1 2.1\n",
-        "fault 8 recorder 5 1\n",
-    ),
-    (
-        "b 1 SI\nb 2 SI\nw 2 1\na 2\nr 1 1 2.2\n",
-        "fault 7 recorder 5 1\n",
-    ),
-    (
-        "b 1 SI\nw 1 1\nr 1 1 1.1\nc 1\nr 1 1 1.1\n",
-        "fault 5 recorder 5 1\n",
-    ),
 ];
 
 // Texts without a fault.
-pub const WHOLE: [&str; 6] = [
-    "",
-    "b 256 PL-1\nw 256 1024\nr 256 1024 256.1\nc 256\n",
-    "b 1 SI\nb 2 PL-3\nr 1 1 0.0\nr 1 2 0.0\nr 2 1 0.0\nr 2 2 0.0\nw 1 1\nw 2 2\nc 1\nc 2\n",
-    "b 1 PL-2\nb 2 PL-1\nw 1 1\nr 2 1 1.1\na 1\nr 2 1 1.1\nc 2\n",
-    "b 7 PL-3\nw 7 1\nw 7 1\nr 7 1 7.2\nw 7 10\nr 7 10 7.1\n",
-    "b 1 PL-1\nb 10 PL-2\nb 100 PL-3\nc 100\nc 10\na 1\n",
+pub const WHOLE: [(&str, &str); 6] = [
+    ("", "recorded 0\n"),
+    (
+        "b 256 PL-1\nw 256 1024\nr 256 1024 256.1\nc 256\n",
+        "recorded 4\n",
+    ),
+    (
+        "b 1 SI\nb 2 PL-3\nr 1 1 0.0\nr 1 2 0.0\nr 2 1 0.0\nr 2 2 0.0\nw 1 1\nw 2 2\nc 1\nc 2\n",
+        "recorded 10\n",
+    ),
+    (
+        "b 1 PL-2\nb 2 PL-1\nw 1 1\nr 2 1 1.1\na 1\nr 2 1 1.1\nc 2\n",
+        "recorded 7\n",
+    ),
+    (
+        "b 7 PL-3\nw 7 1\nw 7 1\nr 7 1 7.2\nw 7 10\nr 7 10 7.1\n",
+        "recorded 6\n",
+    ),
+    (
+        "b 1 PL-1\nb 10 PL-2\nb 100 PL-3\nc 100\nc 10\na 1\n",
+        "recorded 6\n",
+    ),
 ];
