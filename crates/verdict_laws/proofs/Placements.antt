@@ -18,8 +18,8 @@ use Rattle.events.specs.Runs.{hasCommitted}
 use Rattle.events.specs.Questions.{admitted}
 use Rattle.verdicts.specs.Versions.{committed, hasVersion, rankOf, writers, next}
 use Rattle.verdicts.specs.Edges.{apart, drawsWw, inForce, joined, everyKind}
-use Rattle.verdicts.specs.declared.Kind.{Kind}
-use Rattle.verdicts.specs.declared.Kind.the-variants.{Ww, Wr, Rw, Start}
+use Rattle.graph.specs.declared.Kind.{Kind}
+use Rattle.graph.specs.declared.Kind.the-variants.{Ww, Wr, Rw, Start}
 use Rattle.verdicts.specs.Orders.{has, listsEach, forwards}
 use Rattle.verdicts.proofs.Committed.{has-committed, joined-ends}
 use Rattle.verdicts.proofs.Exclusion.{every-at, tail-first}

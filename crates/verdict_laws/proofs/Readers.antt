@@ -14,7 +14,7 @@ use Rattle.events.specs.Runs.{hasCommitted, level}
 use Rattle.events.specs.Questions.{admitted}
 use Rattle.verdicts.specs.Versions.{isOrdered, writers, after, next}
 use Rattle.verdicts.specs.Edges.{abovePl1, atPl3, apart, drawsWr, drawsRw, wrEdge, rwEdge}
-use Rattle.verdicts.specs.declared.Kind.the-variants.{Wr, Rw}
+use Rattle.graph.specs.declared.Kind.the-variants.{Wr, Rw}
 use Rattle.verdicts.specs.Orders.{has}
 use Rattle.verdict_laws.specs.Laws.{Lawful, strictly, alongEdges}
 use Rattle.verdict_laws.proofs.Lists.{any-from}

@@ -5,7 +5,7 @@ use mathlib.Core.List.{List, [], _∷_}
 use mathlib.Core.Logic.{inl, inr}
 use Prim.Native.Nat.{ℕ, _<_}
 use Rattle.std.proofs.shelf.Tests.{or-cases, cases-bool, false≢true}
-use Rattle.verdicts.specs.declared.Kind.{Kind}
+use Rattle.graph.specs.declared.Kind.{Kind}
 use Rattle.verdicts.specs.Edges.{inForce, joined}
 use Rattle.verdicts.specs.Verdicts.{walkKinds, isWalk}
 use Rattle.verdicts.proofs.Exclusion.{no-return}

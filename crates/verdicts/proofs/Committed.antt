@@ -11,8 +11,8 @@ use Rattle.std.proofs.shelf.Ways.{tells}
 use Rattle.events.specs.declared.Event.{Event}
 use Rattle.events.specs.Fields.{isCommit}
 use Rattle.events.specs.Runs.{hasCommitted}
-use Rattle.verdicts.specs.declared.Kind.{Kind}
-use Rattle.verdicts.specs.declared.Kind.the-variants.{Ww, Wr, Rw, Start}
+use Rattle.graph.specs.declared.Kind.{Kind}
+use Rattle.graph.specs.declared.Kind.the-variants.{Ww, Wr, Rw, Start}
 use Rattle.verdicts.specs.Versions.{committed}
 use Rattle.verdicts.specs.Edges.{apart, wrEdge, rwEdge, startEdge, inForce, joined}
 use Rattle.verdicts.specs.Orders.{has}

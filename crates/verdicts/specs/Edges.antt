@@ -9,9 +9,9 @@ use Rattle.events.specs.Lists.{any}
 use Rattle.events.specs.Numbers.{code}
 use Rattle.events.specs.Fields.{by, onRead, onWrite}
 use Rattle.events.specs.Runs.{hasCommitted, beginAt, commitAt, level}
-use Rattle.verdicts.specs.declared.Kind.{Kind}
-use Rattle.verdicts.specs.declared.Kind.the-variants.{Ww, Wr, Rw, Start}
-use Rattle.verdicts.specs.Names.{bit}
+use Rattle.graph.specs.declared.Kind.{Kind}
+use Rattle.graph.specs.declared.Kind.the-variants.{Ww, Wr, Rw, Start}
+use Rattle.graph.specs.Kinds.{bitOf}
 use Rattle.verdicts.specs.Versions.{isOrdered, next}
 
 module _ (es : List Event) where
@@ -74,7 +74,7 @@ module _ (rank : ℕ → ℕ → ℕ) (es : List Event) (realTime : Bool) where
 
   -- what a kind adds to the sum: its number where it is in force
   abbrev pub adds : Kind → ℕ → ℕ → ℕ
-  adds k i j = cond (inForce k i j) (bit k) 0
+  adds k i j = cond (inForce k i j) (bitOf k) 0
 
   -- the sum of the kinds in force; with real time off it is that of ww, wr and rw
   abbrev pub kindSum : ℕ → ℕ → ℕ

@@ -4,8 +4,8 @@ use mathlib.Core.Bool.{Bool, true}
 use mathlib.Core.List.{List, [], _∷_}
 use Prim.Native.Nat.{ℕ, _<_}
 use Rattle.events.specs.declared.Event.{Event}
-use Rattle.verdicts.specs.declared.Kind.{Kind}
-use Rattle.verdicts.specs.declared.Kind.the-variants.{Ww, Wr, Rw}
+use Rattle.graph.specs.declared.Kind.{Kind}
+use Rattle.graph.specs.declared.Kind.the-variants.{Ww, Wr, Rw}
 use Rattle.verdicts.specs.declared.Finding.{Finding}
 use Rattle.verdicts.specs.declared.Finding.the-variants.{G1a, G1b, SiA, SiB, SiC, G0, G1c, G2, Rt}
 use Rattle.verdicts.specs.Names.{number}

@@ -1,7 +1,7 @@
-// Findings on a recorded run and the kinds of edges between its transactions; what they mean is in specs/.
+// Findings on a recorded run; what they mean is in specs/.
 ghost use mathlib.Core.Path.{_≡_};
 ghost use Rattle.verdicts.specs.Claims.{KnownRuns};
-ghost use Rattle.verdicts.specs.Names.{number as finding-number, name as finding-name, bit as kind-bit};
+ghost use Rattle.verdicts.specs.Names.{number as finding-number, name as finding-name};
 
 // What can be wrong with a run, in the order in which it is looked for. The first five are shown by two events, the others
 // by a closed walk along edges.
@@ -59,33 +59,6 @@ impl Finding {
             Finding::G1c => b"G1c",
             Finding::G2 => b"G2",
             Finding::Rt => b"RT",
-        }
-    }
-}
-
-// Kinds of edges, from a tail to a head.
-#[derive(Clone, Copy, PartialEq, Debug)]
-pub enum Kind {
-    // the head overwrote the tail's version
-    Ww,
-    // the head read what the tail wrote
-    Wr,
-    // the head overwrote a version that the tail read
-    Rw,
-    // the tail committed before the head began
-    Start,
-}
-
-impl Kind {
-    // The kind's number: a bit of its own, so that kinds can be summed.
-    pub fn bit(self) -> u8
-        ensures { λ r. ⌜ r ≡ kind-bit self ⌝ }
-    {
-        match self {
-            Kind::Ww => 1,
-            Kind::Wr => 2,
-            Kind::Rw => 4,
-            Kind::Start => 8,
         }
     }
 }

@@ -1,0 +1,3 @@
+pub mod Kinds
+pub mod Edges
+pub mod Graphs
