@@ -23,7 +23,7 @@ find-passes p (x ∷ xs) d h = cond-both (p x) x (find p xs d) (λ y. (p y ≡ t
     (i .0, or-right (eqb (find p xs d) x) (has xs (find p xs d)) (i .1)))
 
 module _ (joined : ℕ → ℕ → Bool) (vertices : List ℕ) where
-  -- what one place of the order says
+  -- what one place in the order tells
   pub record Step (done : List ℕ) (v : ℕ) (vs : List ℕ) : Type 0 where
     pub found : v ≡ find (ready joined vertices done) vertices 0
     pub vertex : has vertices v ≡ true
