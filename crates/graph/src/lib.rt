@@ -44,7 +44,7 @@ pub trait Graph {
     // The proof that this is a graph.
     ghost well: { (x : Self) → WellFormed (vertices x) (edges x) };
 
-    // How many vertices there are.
+    // The number of vertices.
     fn size(&self) -> usize
         ensures { λ r. ⌜ r ≡ vertices (now (self .entry)) ⌝ };
 
@@ -53,7 +53,7 @@ pub trait Graph {
         ensures { λ r. ⌜ r ≡ edges (now (self .entry)) tail head ⌝ };
 }
 
-// A graph that is lent.
+// Lent, a graph is the same graph.
 pub impl<'a, G: Graph> Graph for &'a G as LentGraph {
     ghost vertices = { λ s. G·Graph .vertices (now s) };
 

@@ -17,7 +17,7 @@ columnOf (Word text c l) = c
 columnOf (Number text c n) = c
 columnOf (Version text c v) = c
 
--- the column after the field
+-- one past the field's last column
 abbrev pub endOf : Field → ℕ
 endOf f = columnOf f + length (textOf f)
 

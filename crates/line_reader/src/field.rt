@@ -38,7 +38,7 @@ pub enum Field<'a> {
 }
 
 impl Field<'_> {
-    // The column after the field.
+    // One past the field's last column.
     fn end(&self) -> usize
         requires { ⌜ endOf (now self) < 200 ⌝ }
         ensures { λ r. ⌜ r ≡ endOf (now (self .entry)) ⌝ }
@@ -116,7 +116,7 @@ fn after(text: &[u8], mark: u8, column: usize) -> Result<&[u8], FormFault>
     }
 }
 
-// The number that leads the text, and how many bytes it has.
+// A leading number with its width in bytes.
 fn leading(text: &[u8]) -> Option<(u16, usize)>
     ensures { λ r. ⌜ BySome r (leads (now (text .entry)) ≡ false) (λ p. Leading (now (text .entry)) (p .0) (p .1)) ⌝ }
 {

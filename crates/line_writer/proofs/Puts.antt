@@ -50,11 +50,11 @@ number-more n k out was big small fit e q =
     ∙ sym (append-assoc ds ((48 + n % 10) ∷ []) (drop (length (decimal n)) was))
     ∙ ap (λ (l : List ℕ). l ++ drop (length (decimal n)) was) (sym (decimal-step n big small))
 
--- a byte at a place
+-- putting one byte
 pub put-byte : (out : List ℕ) (at b : ℕ) → at < length out → set out at b ≡ put at (b ∷ []) out
 put-byte out at b h = set-split out at b h ∙ ap (λ (j : ℕ). take at out ++ b ∷ drop j out) (sym (add-one at))
 
--- a piece, and another right after it
+-- putting two pieces side by side is putting both at once
 pub put-put : (at : ℕ) (p q out : List ℕ) → at + (length p + length q) ≤ length out
     → put (at + length p) q (put at p out) ≡ put at (p ++ q) out
 put-put at p q out h =
@@ -71,7 +71,7 @@ put-put at p q out h =
     ∙ append-assoc a p (q ++ drop (at + length (p ++ q)) out)
     ∙ ap (λ (l : List ℕ). a ++ l) (sym (append-assoc p q (drop (at + length (p ++ q)) out)))
 
--- a piece written at the front of the lent rest
+-- a piece at the front of a part that was lent to its end
 pub lent : (out part piece : List ℕ) (at : ℕ) → at ≤ length out
     → part ≡ piece ++ drop (length piece) (take (length out - at) (drop at out))
     → putMid at (length out - at) out part ≡ put at piece out
@@ -81,7 +81,7 @@ lent out part piece at h p =
     p ∙ ap (λ (x : List ℕ). piece ++ drop (length piece) x) (take-rest out at) ∙ ap (λ (x : List ℕ). piece ++ x) (drop-drop (length piece) at out) in
     ap (λ (x : List ℕ). take at out ++ (part ++ x)) past ∙ ap (λ (x : List ℕ). take at out ++ x) (append-nil part ∙ rest)
 
--- a text copied to a place
+-- a slice copied into a part
 pub copied : (out text part : List ℕ) (at k : ℕ) → k ≡ length text → part ≡ text → putMid at k out part ≡ put at text out
 copied out text part at k q p =
     ap₂ (λ (x : List ℕ) (j : ℕ). take at out ++ (x ++ drop j (drop at out))) p q
@@ -96,7 +96,7 @@ bytesOf-line (Write t i) = simp length-append (omega arith)
 bytesOf-line (Commit t) = simp length-append (omega arith)
 bytesOf-line (Abort t) = simp length-append (omega arith)
 
--- what has been written so far, from the front
+-- the pieces p stand at the front of what was old, and end at a place
 pub record Wrote (old p : List ℕ) (at : ℕ) (out : List ℕ) : Type 0 where
   pub is : out ≡ put 0 p old
   pub size : at ≡ length p
@@ -114,7 +114,7 @@ wrote old p q at far out new w h e f =
 pub wrote-none : (old : List ℕ) → Wrote old [] 0 old
 wrote-none old = record { is = sym (ap (λ (j : ℕ). drop j old) (zero-add 0)); size = refl }
 
--- the whole line
+-- once the pieces make the line, it is written
 pub finish : (e f : Event) (old p : List ℕ) (at : ℕ) (out : List ℕ) → e ≡ f → bytesOf f ≤ length old → Wrote old p at out → p ≡ line f
     → (at ≡ length (line e)) × (at ≤ length old) × (out ≡ line e ++ drop at old)
 finish e f old p at out q fit w l =

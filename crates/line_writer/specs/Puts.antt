@@ -11,7 +11,7 @@ use Rattle.lines.specs.Lines.{codeWord}
 abbrev pub put : ℕ → List ℕ → List ℕ → List ℕ
 put at piece text = take at text ++ (piece ++ drop (at + length piece) text)
 
--- how long an event's line is, by its fields
+-- the bytes of a line, counted field by field
 abbrev pub bytesOf : Event → ℕ
 bytesOf Blank = 0
 bytesOf (Begin t l) = 4 + length (decimal t) + length (codeWord l)

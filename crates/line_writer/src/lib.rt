@@ -10,7 +10,7 @@ ghost use Rattle.line_writer.specs.Puts.{put, bytesOf};
 use events::Event;
 use events::Level;
 
-// How many digits a number has.
+// The number of digits, from 1 to 5.
 fn digits(n: u16) -> usize
     ensures { λ r. ⌜ (r ≡ length (decimal n)) × (r ≤ 5) ⌝ }
 {
@@ -80,7 +80,7 @@ fn write_number(text: &mut [u8], n: u16) -> usize
     }
 }
 
-// Puts one byte at a place, and answers the place after it.
+// One byte at a place; the answer is the place behind it.
 fn put_byte(text: &mut [u8], at: usize, byte: u8) -> usize
     requires { ⌜ at + 1 ≤ length (now text) ⌝ }
     ensures { λ r. ⌜ (r ≡ at + 1) × (now (text .exit) ≡ put at (byte ∷ []) (now (text .entry))) ⌝ }

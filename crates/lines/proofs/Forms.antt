@@ -113,7 +113,7 @@ spells (Write t x) w = inr (inr (inl (_, refl, (_, refl, (t, _, w .0, refl, (x, 
 spells (Commit t) w = inr (inr (inr (inl (_, refl, (_, refl, (t, _, w, refl, (refl, refl)))))))
 spells (Abort t) w = inr (inr (inr (inr (_, refl, (_, refl, (t, _, w, refl, (refl, refl)))))))
 
--- a line is read as its event, whatever follows
+-- reading a line, with anything after it, gives its event
 pub reads-line : (e : Event) (u : List ℕ) → Writable e → parse forms 1 (line e ++ u) ≡ Ok (e, 1 + length (line e))
 reads-line e u w = complete forms plain-forms 1 (line e) u e (spells e w)
 

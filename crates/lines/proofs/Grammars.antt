@@ -100,7 +100,7 @@ abbrev pub Right : Grammar → ℕ → List ℕ → Outcome → Type 0
 Right g c s (Ok p) = (n : ℕ) × (p .1 ≡ c + n) × (n ≤ length s) × Spells g (take n s) (p .0)
 Right g c s (Err f) = (k : ℕ) × (f .column ≡ c + k) × Stuck g s k
 
--- every grammar has a word
+-- something can be spelled by every grammar
 some : (g : Grammar) → (t : List ℕ) × (e : Event) × Spells g t e
 some (done e) = ([], e, (refl, refl))
 some (byte b g) = let r = some g in (b ∷ r .0, r .1, (r .0, refl, r .2))
@@ -236,7 +236,7 @@ module _ (b : ℕ) (g : ℕ → Grammar) (c : ℕ) where
       right-past-number s plain lead _ (right-byte b (g (leader s)) (c + width s) (drop (width s) s) (ih (leader s) (c + width s + 1)))
   right-number s false lead plain ih = stuck-at-once (number b g) c s (no-number s lead)
 
--- the reading of a text by a grammar is right
+-- what a grammar reads off a text is what the text spells
 pub right : (g : Grammar) → Plain g → (c : ℕ) (s : List ℕ) → Right g c s (parse g c s)
 unfolding parse
 right (done e) w c s = (0, omega arith, omega arith, (refl, refl))

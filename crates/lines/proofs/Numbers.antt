@@ -82,7 +82,7 @@ pub record Begun (P : ℕ → Type 0) (bs : List ℕ) : Type 0 where
   pub is : bs ≡ first ∷ others
   pub holds : P first
 
--- a number's text begins with a digit
+-- the first byte of a written number is a digit
 pub decimal-begun : (n : ℕ) → n < 2 ^ 64 → Begun (λ b. digit b ≡ true) (decimal n)
 decimal-begun n h =
     decimal-by-steps (λ m ds. Begun (λ b. digit b ≡ true) ds)
@@ -129,7 +129,7 @@ module _ (v w : ℕ) (y t : List ℕ) (h : v < 2 ^ 16) (k : w < 2 ^ 16) (s : Sto
       absurd (grind (arith, tells))
   once-cut (alike p q) = (same-from-decimal v w (omega arith) (omega arith) p, q)
 
-  -- the number that leads a text is one
+  -- two numbers that lead the same text, with no digit behind them, are the same
   pub number-once : decimal v ++ y ≡ decimal w ++ t → (v ≡ w) × (y ≡ t)
   number-once e = once-cut (cuts (decimal v) y (decimal w) t e)
 

@@ -5,7 +5,7 @@ use mathlib.Core.List.{List, _++_}
 use Rattle.events.specs.declared.Event.{Event}
 use Rattle.lines.specs.Lines.{line, Writable, NoForm}
 
--- different events have different lines, and no line begins another
+-- a text that begins with two lines begins with one: the events are the same
 abbrev pub LinesDiffer : Type 0
 LinesDiffer = (e f : Event) (u v : List ℕ) → Writable e → Writable f → line e ++ u ≡ line f ++ v → e ≡ f
 

@@ -8,12 +8,12 @@ pub struct FormFault {
     pub column: usize,
 }
 
-// The columns of known faults.
+// Known texts have their fault at the known columns.
 pub fn columns_known()
     ensures { λ _. ⌜ ColumnsKnown ⌝ }
 {}
 
-// Different events have different lines, and no line begins another.
+// A line tells its event, whatever follows it: no other event has it, or a part of it, as its line.
 pub fn lines_differ()
     ensures { λ _. ⌜ LinesDiffer ⌝ }
 {}

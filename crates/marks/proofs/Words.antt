@@ -123,7 +123,7 @@ marked-at m at k h l =
     ap (λ (b : Bool). b && member (m .words) (at * 64 + k)) few
     ∙ ap (λ (x : ℕ). eqb (bit (getD (m .words) x 0) ((at * 64 + k) % 64)) 1) q ∙ ap (λ (x : ℕ). eqb (bit (getD (m .words) at 0) x) 1) r
 
--- the first word that is not 0 has the least mark
+-- where the words before are 0, the least mark is in the first that is not
 pub least : (m : Marks) (at : ℕ) → at < 4 → 0 < getD (m .words) at 0 → getD (m .words) at 0 < 2 ^ 64 → ((k : ℕ) → k < 64 * at → marked m k ≡ false)
     → Least (marked m) (at * 64 + trailingZeros 64 (getD (m .words) at 0))
 least m at h p b none =

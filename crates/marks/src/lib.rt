@@ -55,7 +55,7 @@ impl Marks {
         }
     }
 
-    // The marks that are set in both.
+    // Those marks that both sets have.
     pub fn common(&self, other: &Marks) -> Marks
         ensures { λ r. ⌜ ((k : ℕ) → marked r k ≡ (marked (now (self .entry)) k && marked (now (other .entry)) k)) ⌝ }
     {

@@ -78,7 +78,7 @@ module _ {n : ℕ} {was tails : List Marks} {k : ℕ} {unplaced free : ℕ → B
           | inr e ↦ e
         ]
 
-    -- there is room for it
+    -- the array is not full yet
     pub room : k < 256
     room = omega (arith, p .total, count-without n unplaced v here (p .inside v here), count-le n unplaced)
 

@@ -52,7 +52,7 @@ pub impl<'a> Graph for Starts<'a> as StartsGraph {
     }
 }
 
-// Searches the edges of some kinds of two graphs together.
+// The search over a filter of a union.
 pub fn find_in_both<A: Graph, B: Graph>(
     first: &A,
     second: &B,

@@ -1,4 +1,4 @@
--- A table that tracks a list of events: what it has of each transaction and item is what the list says.
+-- Tracking: a table has of every transaction and item what a list of events says of them.
 use mathlib.Core.Path.{_≡_}
 use mathlib.Core.List.{List}
 use Prim.Native.Nat.{ℕ}

@@ -25,7 +25,7 @@ yes (b ∷ answers) zero h = grind (arith, onward-tells (first not answers))
 yes (b ∷ answers) (suc k) h = yes answers k (grind (arith, onward-tells (first not answers)))
 
 module _ (done : List Event) (e : Event) (h : question done e ≡ 0) where
-  -- no transaction has the number 0
+  -- an admitted event's transaction is not 0
   pub asked-number : 0 < transactionOf e
   unfolding question
   asked-number = ltb-true 0 (transactionOf e) (and-parts (ltb 0 (transactionOf e)) (ltb (transactionOf e) 257) (yes (put done e) 0 h) .0)
@@ -112,7 +112,7 @@ module _ (es : List Event) (h : admitted es ≡ true) where
   pub zero-writes-none : (x : ℕ) → modifications es 0 x ≡ 0
   zero-writes-none x = zero-left x [] es fit
 
--- what the questions say of a read
+-- what an admitted read has answered
 pub record ReadAsked (done : List Event) (t x w n : ℕ) : Type 0 where
   pub number : 0 < t
   pub made : ((w ≡ 0) × (n ≡ 0)) ⊎ ((0 < n) × (n ≤ modifications done w x))

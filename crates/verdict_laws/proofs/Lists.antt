@@ -66,7 +66,7 @@ module _ {X : Type 0} (p : X → Bool) where
   last-from-count [] h = omega arith
   last-from-count (x ∷ xs) h = let ih = last-from-count xs in grind (arith, lastOr-tells (p x) (last p xs))
 
-  -- an element of the front stands first in the front
+  -- what a front has is found in the front
   pub first-left : (ys zs : List X) → 0 < count p ys → first p (ys ++ zs) ≤ length ys
   first-left [] zs h = absurd (omega arith)
   first-left (y ∷ ys) zs h = let ih = first-left ys zs in grind (arith, onward-tells (first p (ys ++ zs)))
@@ -85,7 +85,7 @@ module _ {X : Type 0} (p q : X → Bool) where
   abbrev Both : Type 0
   Both = (x : X) × (p x ≡ true) × (q x ≡ true)
 
-  -- the element at a shared first position passes both
+  -- two tests with one first position both pass there
   pub first-shared : (xs : List X) → first p xs ≡ first q xs → 0 < first p xs → Both
   first-shared [] e h = absurd (omega arith)
   first-shared (x ∷ xs) e h = go (p x) (q x) refl refl (first-shared xs)
@@ -110,7 +110,7 @@ module _ {X : Type 0} (p q : X → Bool) where
     | inr k ↦ or-right (q x) (any q xs) (any-weaker f xs k)
   ]
 
-  -- what passes q passes p: the filter by p loses none of it
+  -- where q implies p, filtering by p keeps all that passes q
   pub count-kept : ((x : X) → q x ≡ true → p x ≡ true) → (xs : List X) → count q (kept-by p xs) ≡ count q xs
   count-kept f [] = refl
   count-kept f (x ∷ xs) = let ih = count-kept f xs in elim (cases-bool (p x)) [
@@ -122,11 +122,11 @@ module _ {X : Type 0} (p q : X → Bool) where
   count-kept-less [] = omega arith
   count-kept-less (x ∷ xs) = let ih = count-kept-less xs in elim (cases-bool (p x)) [ inl k ↦ rw k (omega arith) | inr k ↦ rw k (omega arith) ]
 
-  -- what passes p fails q: the filter by p leaves none of it
+  -- where p excludes q, filtering by p leaves nothing that passes q
   pub count-kept-none : ((x : X) → p x ≡ true → q x ≡ false) → (xs : List X) → count q (kept-by p xs) ≡ 0
   count-kept-none f [] = refl
   count-kept-none f (x ∷ xs) = let ih = count-kept-none f xs in elim (cases-bool (p x)) [ inl k ↦ rw (k, f x k) (omega arith) | inr k ↦ rw k ih ]
 
--- the count of an element behind a front
+-- counting behind a front that lacks the element
 pub count-at : (t : ℕ) (ls rs : List ℕ) → count (eqb t) (ls ++ t ∷ rs) ≡ count (eqb t) ls + 1 + count (eqb t) rs
 count-at t ls rs = let k : eqb t t ≡ true = eq-eqb t t refl in grind (arith, count-append (eqb t) ls (t ∷ rs))

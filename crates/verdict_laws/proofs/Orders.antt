@@ -41,7 +41,7 @@ module _ (joined : ℕ → ℕ → Bool) (vertices : List ℕ) where
       let c = and-parts (not (has done v)) (every (λ t. not (joined t v) || has done t) vertices) r in
       record { found = e; vertex = ap (has vertices) e ∙ f .1; new = not-true (has done v) (c .0); tails = c .1; rest = a .1 }
 
-  -- each vertex that is not done stands once in what follows, and nothing else does
+  -- what follows has just the vertices that are left, each once
   listed-once : (done vs : List ℕ) → completes joined vertices done vs ≡ true → (t : ℕ) → count (eqb t) vs ≡ cond (has done t) 0 (cond (has vertices t) 1 0)
   listed-once done [] h t = go (has done t) (has vertices t) refl refl
     where
@@ -62,7 +62,7 @@ module _ (joined : ℕ → ℕ → Bool) (vertices : List ℕ) where
         | inr n ↦ let k = ne-eqb t v n in grind arith
       ]
 
-  -- the tails of what is placed stand before it
+  -- whatever is placed has its tails in front of it
   tail-placed : (ls done : List ℕ) (i j : ℕ) (rs : List ℕ) → completes joined vertices done (ls ++ j ∷ rs) ≡ true
       → joined i j ≡ true → has vertices i ≡ true → has (done ++ ls) i ≡ true
   tail-placed [] done i j rs h e v =

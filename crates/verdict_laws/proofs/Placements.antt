@@ -49,7 +49,7 @@ placed-strict order ls (u ∷ rs) once is =
         let b = subst (λ l. length (ls ++ u ∷ []) < first (eqb v) l) s (first-right (eqb v) (ls ++ u ∷ []) rs y p) in
         omega (arith, a, b, length-append ls (u ∷ []))
 
--- a write of x passes what passes at x
+-- a test on the item, put to a write of x
 onWrite-at : (p : ℕ → Bool) (x : ℕ) (e : Event) → onWrite (λ y. eqb y x) e ≡ true → p x ≡ true → onWrite p e ≡ true
 onWrite-at p x Blank h k = h
 onWrite-at p x (Begin t l) h k = h

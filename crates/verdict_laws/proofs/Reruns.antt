@@ -72,14 +72,14 @@ module _ (rank : ℕ → ℕ → ℕ) (es : List Event) (realTime : Bool) (order
       ])
     ]
 
-    -- the reader has written the item
+    -- where the reader wrote the item before
     held-own : w ≡ t → n ≡ modifications ys t x → 0 < modifications ys t x → held (script es ls ++ kept-by (by t) ys) x ≡ (w, n)
     held-own e k h =
         held-more x t (script es ls) ys
         ∙ ap (λ u. (u, modifications (script es ls) u x + modifications (kept-by (by t) ys) u x)) (cond-true (wrote ys x t) t (lastWriter x 0 (script es ls)) (lt-ltb 0 (modifications ys t x) h))
         ∙ ap₂ (λ a b. (a, b)) (sym e) (rw (modifications-script es t x ls, not-in-front) (omega (arith, modifications-by t x ys, k)))
 
-    -- the reader has not
+    -- where it did not
     module _ (h : modifications ys t x ≡ 0) where
       other : w ≢ t
       other e = elim (asked .made) [

@@ -87,7 +87,7 @@ module _ (rank : ℕ → ℕ → ℕ) (es : List Event) (x : ℕ) where
       ∙ ap (λ b. hasVersion es x t && b) (has-committed es t) ∙ has-and-committed es x t
 
   module _ (law : Lawful rank) where
-    -- two versions have different ranks
+    -- different writers have different ranks
     pub ranks-differ : (u v : ℕ) → Has es x u → Has es x v → u ≢ v → key u ≢ key v
     ranks-differ u v hu hv n = law (lastWrite es u x) (lastWrite es v x) (commitAt es u) (commitAt es v) writes-differ commits-differ
       where

@@ -17,7 +17,7 @@ use Rattle.verdicts.specs.Versions.{committed}
 use Rattle.verdicts.specs.Edges.{apart, wrEdge, rwEdge, startEdge, inForce, joined}
 use Rattle.verdicts.specs.Orders.{has}
 
--- the committed transactions are those that have committed
+-- a transaction is on the list exactly where it has committed
 pub has-committed : (es : List Event) (t : ℕ) → has (committed es) t ≡ hasCommitted es t
 has-committed [] t = refl
 has-committed (e ∷ es) t = let ih = has-committed es t in elim (cases-bool (isCommit e)) [
