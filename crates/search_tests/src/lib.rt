@@ -52,22 +52,24 @@ pub impl<'a> Graph for Starts<'a> as StartsGraph {
     }
 }
 
-// The search over a filter of a union.
+// The search over a filter of a union, of which both graphs come back.
 pub fn find_in_both<A: Graph, B: Graph>(
-    first: &A,
-    second: &B,
+    first: A,
+    second: B,
     kinds: u8,
     report: &mut [u16],
-) -> Result<Found, Short>
-    ensures { λ r. ⌜ Answer (max (A·Graph .vertices (now (first .entry))) (B·Graph .vertices (now (second .entry)))) (joined (filtered (united (A·Graph .edges (now (first .entry))) (B·Graph .edges (now (second .entry)))) kinds)) (now (report .entry)) (now (report .exit)) r ⌝ }
+) -> (Result<Found, Short>, A, B)
+    ensures found { λ r. ⌜ Answer (max (A·Graph .vertices first) (B·Graph .vertices second)) (joined (filtered (united (A·Graph .edges first) (B·Graph .edges second)) kinds)) (now (report .entry)) (now (report .exit)) (r .0) ⌝ }
+    ensures back { λ r. ⌜ (r .1 ≡ first) × (r .2 ≡ second) ⌝ }
 {
-    search::find(
-        &Filter {
-            graph: Union { first, second },
-            kinds,
-        },
-        report,
-    )
+    let both = Filter {
+        graph: Union { first, second },
+        kinds,
+    };
+    let found = search::find(&both, report);
+    let (union, _) = both.into_parts();
+    let (first, second) = union.into_parts();
+    (found, first, second)
 }
 
 // Whether no walk of a graph is closed.

@@ -27,6 +27,13 @@ const CROSSING: [(u8, u8, Kind); 4] = [
 
 const CYCLE: [(u8, u8, Kind); 2] = [(0, 1, Kind::Ww), (1, 0, Kind::Rw)];
 
+// A cycle of the last three vertices.
+const LAST_THREE: [(u8, u8, Kind); 3] = [
+    (253, 254, Kind::Wr),
+    (254, 255, Kind::Wr),
+    (255, 253, Kind::Wr),
+];
+
 // A table's size and edges, the kinds that the search sees, what it finds, and the order where it is one.
 #[derive(Clone, Copy)]
 struct Case<'a>(usize, &'a [(u8, u8, Kind)], u8, Found, &'a [u16]);
@@ -83,6 +90,11 @@ fn finds<G: Graph>(graph: &G, found: Found, order: &[u16]) -> Result<(), Fail> {
     }
 }
 
+// The same, of a table of all 256 vertices.
+fn finds_in(bytes: &[u8], found: Found, order: &[u16]) -> Result<(), Fail> {
+    finds(&Table { bytes, size: 256 }, found, order)
+}
+
 #[test]
 fn small_graphs(rt: LibcRuntime) -> Result<(), Fail> {
     let cases = [
@@ -113,56 +125,19 @@ fn all_vertices(rt: LibcRuntime) -> Result<(), Fail> {
     let mut falling = [0; 256];
     let mut reverse = table(heap, &[])?;
     let mut cycle = table(heap, &[])?;
-    // a cycle of three, which leads from 253 down to 0
-    let mut tail = table(
-        heap,
-        &[
-            (253, 254, Kind::Wr),
-            (254, 255, Kind::Wr),
-            (255, 253, Kind::Wr),
-        ],
-    )?;
+    let mut into_cycle = table(heap, &LAST_THREE)?;
+    let mut out_of_cycle = table(heap, &LAST_THREE)?;
     for v in 0..=255u8 {
         falling[usize::from(v)] = 255 - u16::from(v);
         join(&mut reverse, v, v.saturating_sub(1), Kind::Rw);
         join(&mut cycle, v, v.wrapping_add(1), Kind::Wr);
-        join(
-            &mut tail,
-            v.min(253),
-            v.min(253).saturating_sub(1),
-            Kind::Ww,
-        );
+        join(&mut into_cycle, v.min(252), v.min(252) + 1, Kind::Ww);
+        join(&mut out_of_cycle, v.min(252) + 1, v.min(252), Kind::Ww);
     }
-    finds(
-        &Table {
-            bytes: &reverse,
-            size: 256,
-        },
-        Found::Order(256),
-        &falling,
-    )?;
-    finds(
-        &Table {
-            bytes: &cycle,
-            size: 1000,
-        },
-        Found::Walk(256),
-        &[],
-    )?;
-    finds(
-        &Table {
-            bytes: &tail,
-            size: 256,
-        },
-        Found::Walk(3),
-        &[],
-    )?;
-    check(is_acyclic(
-        &Table {
-            bytes: &cycle,
-            size: 255,
-        },
-    ))
+    finds_in(&reverse, Found::Order(256), &falling)?;
+    finds_in(&cycle, Found::Walk(256), &[])?;
+    finds_in(&into_cycle, Found::Walk(3), &[])?;
+    finds_in(&out_of_cycle, Found::Walk(3), &[])
 }
 
 #[test]
@@ -180,10 +155,9 @@ fn union_closes_a_cycle(rt: LibcRuntime) -> Result<(), Fail> {
     finds(&second, Found::Order(3), &[0, 1, 2])?;
     finds(&Union { first, second }, Found::Walk(2), &[])?;
     let mut report = [BEFORE; 256];
-    check_eq(
-        find_in_both(&first, &second, Kind::Rw.bit(), &mut report),
-        Ok(Found::Order(3)),
-    )
+    let (found, first, second) = find_in_both(first, second, Kind::Rw.bit(), &mut report);
+    check_eq(found, Ok(Found::Order(3)))?;
+    check(is_acyclic(&first) && !is_acyclic(&Union { first, second }))
 }
 
 #[test]
