@@ -87,9 +87,9 @@ fn grown(value: u16, byte: u8) -> Option<u16>
 
 // Reads digits on from the number: what it becomes, and how many bytes it takes.
 fn number_on(value: u16, text: &[u8]) -> (u16, usize)
-    ensures result_value { result.0 ≡ number_on value text.now }
-    ensures result_value_2 { result.1 ≡ width_on value text.now }
-    ensures result_in_bounds { result.1 ≤ length text.now }
+    ensures number { result.0 ≡ number_on value text.now }
+    ensures width { result.1 ≡ width_on value text.now }
+    ensures within { result.1 ≤ length text.now }
 {
     let mut value = value;
     for (i, byte) in text.iter().enumerate() {
@@ -158,8 +158,8 @@ fn version(text: &[u8], mark: u8, column: usize) -> Result<(Field<'_>, &[u8]), F
 
 // How many bytes the text and the word have in common, from their first on.
 fn common(text: &[u8], word: &[u8]) -> usize
-    ensures value { result ≡ agree word.now text.now }
-    ensures upper_bound { (result ≤ length word.now) × (result ≤ length text.now) }
+    ensures agreeing { result ≡ agree word.now text.now }
+    ensures within { (result ≤ length word.now) × (result ≤ length text.now) }
 {
     let mut n = 0;
     while n < text.len() && n < word.len() && text[n] == word[n] {
@@ -170,8 +170,8 @@ fn common(text: &[u8], word: &[u8]) -> usize
 
 // How many bytes the text has in common with a level's word, with the one that has the most.
 fn level_bytes(text: &[u8]) -> usize
-    ensures upper_bound { (result ≤ 4) × (result ≤ length text.now) }
-    ensures level_bytes { LevelBytes text.now result }
+    ensures within { (result ≤ 4) × (result ≤ length text.now) }
+    ensures whole_or_stop { LevelBytes text.now result }
 {
     common(text, b"PL-1")
         .max(common(text, b"PL-2"))

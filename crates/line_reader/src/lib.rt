@@ -1,4 +1,6 @@
 // Reads one line of a listing: its event, or the column of the first byte that continues none of the five forms.
+#![tactic(auto)]
+
 mod field;
 
 pub use field::line::read_line;

@@ -1,4 +1,6 @@
 // Writes one line of a listing at the front of a text.
+#![tactic(auto)]
+
 ghost use Rattle.std.specs.Prelude.{◌≡◌, ◌+◌, ◌<◌, ◌≤◌, [], ◌∷◌, ◌++◌, length, drop, decimal, MatchOption};
 ghost use Rattle.lines.specs.Lines.{code_word, line};
 ghost use Rattle.line_writer.specs.Puts.{put, bytes_of};

@@ -4,7 +4,7 @@ use Rattle.std.proofs.lemmas.List.{length-append, length-drop}
 use Rattle.std.proofs.lemmas.Bool.{both_ways, cond-true, cond-false, eqb-true, eqb-false, eq-eqb}
 use Rattle.events.specs.declared.Event.{Event}
 use Rattle.lines.specs.Grammar.{digit, leads, leader, width, Grammar, done, byte, fork, number, fault_at, Outcome, past, parse}
-use Rattle.lines.proofs.Numbers.{Begun, decimal_begun, Stops, Ends, number_once, taken, found}
+use Rattle.lines.proofs.Numbers.{Begun, decimal_begun, Stops, number_once, taken, found}
 
 -- the bytes are a word of the grammar, and e is its event
 abbrev pub Spells : Grammar → List ℕ → Event → Type 0

@@ -1,6 +1,6 @@
 -- The known columns, by reading each text.
-use Rattle.std.proofs.Common.{◌≡◌, ℕ, Bool, true, false, eqb, List, [], ◌∷◌, Ok, Err, sym, refl, ap, ◌∙◌, arith}
-use Rattle.std.specs.List.{AllByRecursion as All}
+use Rattle.std.proofs.Common.{◌≡◌, ℕ, Bool, true, false, eqb, List, [], ◌∷◌, Ok, Err, sym, refl, ap, arith}
+use Rattle.std.specs.List.{AllByRecursion}
 use Rattle.std.proofs.lemmas.Bool.{and_parts, eqb-true}
 use Rattle.events.specs.Lists.{every}
 use Rattle.lines.specs.Lines.{NoForm}
@@ -16,7 +16,7 @@ fault_is : (c : ℕ) (r : Outcome) → is_fault c r ≡ true → r ≡ Err (faul
 fault_is c (Ok p) h = absurd (grind arith)
 fault_is c (Err f) h = ap (λ (d : ℕ). Err (fault_at d)) (eqb-true f.column c h)
 
-all_faults : (ps : List (List ℕ × ℕ)) → every (λ p. is_fault p.1 (parse forms 1 p.0)) ps ≡ true → All (λ p. NoForm p.0 p.1) ps
+all_faults : (ps : List (List ℕ × ℕ)) → every (λ p. is_fault p.1 (parse forms 1 p.0)) ps ≡ true → AllByRecursion (λ p. NoForm p.0 p.1) ps
 all_faults [] h = tt
 all_faults ((s, c) ∷ ps) h =
     let (one, others) = and_parts _ (every (λ p. is_fault p.1 (parse forms 1 p.0)) ps) h in

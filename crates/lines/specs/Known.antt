@@ -1,6 +1,6 @@
 -- Texts that are no line, each with the column of its fault.
 use Rattle.std.specs.Prelude.{ℕ, List, [], ◌∷◌, codes}
-use Rattle.std.specs.List.{AllByRecursion as All}
+use Rattle.std.specs.List.{AllByRecursion}
 use Rattle.lines.specs.Lines.{NoForm}
 
 abbrev pub known : List (List ℕ × ℕ)
@@ -20,4 +20,4 @@ known =
 
 -- each of these columns is that of the text's fault
 abbrev pub ColumnsKnown : Type 0
-ColumnsKnown = All (λ p. NoForm p.0 p.1) known
+ColumnsKnown = AllByRecursion (λ p. NoForm p.0 p.1) known

@@ -1,4 +1,6 @@
 // The lines of a listing: the fault of a text that is none, and what is proved of lines whatever reads or writes them.
+#![tactic(auto)]
+
 ghost use Rattle.lines.specs.Laws.{LinesDiffer, FaultOnce};
 ghost use Rattle.lines.specs.Known.{ColumnsKnown};
 

@@ -1,4 +1,4 @@
-use Rattle.std.proofs.Common.{◌≡◌, sym, arith}
+use Rattle.std.proofs.Common.{sym, arith}
 use Rattle.line_writer.proofs.Puts.{digits_one, digits_two, digits_three, digits_four, digits_five}
 use Rattle.line_writer.proofs.digits.Goals as goal
 

@@ -10,7 +10,7 @@ returns-in-len1-up c =
     let is : s ≡ c.args.mark ∷ take (length s - 1) (drop 1 s) = search (rules, one_and_rest) in
     (is, λ k. ap (parse (byte c.args.mark k) c.args.column) is ∙ byte_on c.args.mark k c.args.column (take (length s - 1) (drop 1 s)))
 
-pub returns-in-default : goal.returns-in-default
-returns-in-default c =
+pub returns-in_default : goal.returns-in_default
+returns-in_default c =
     let not : (rest : List ℕ) → c.args.text.now ≡ c.args.mark ∷ rest → ⊥ = search rules in
     λ k. byte_off c.args.mark k c.args.column c.args.text.now not

@@ -14,14 +14,14 @@ returns-else-text-n c =
     let w = c.args.word.now in
     let s = c.args.text.now in
     let other = agree_other w s c.loop-n.n (omega arith) (omega arith) (λ e. omega arith) in
-    (omega (arith, other, c.loop-n.invariant.2), (omega arith, omega arith))
+    record { agreeing = omega (arith, other, c.loop-n.invariant.2); within = (omega arith, omega arith) }
 
 pub returns-else-n-word : goal.returns-else-n-word
 returns-else-n-word c =
     let end = agree_end_word c.args.word.now c.args.text.now c.loop-n.n (omega arith) in
-    (omega (arith, end, c.loop-n.invariant.2), (omega arith, omega arith))
+    record { agreeing = omega (arith, end, c.loop-n.invariant.2); within = (omega arith, omega arith) }
 
 pub returns-after-loop-n : goal.returns-after-loop-n
 returns-after-loop-n c =
     let end = agree_end_text c.args.word.now c.args.text.now c.loop-n.n (omega arith) in
-    (omega (arith, end, c.loop-n.invariant.2), (omega arith, omega arith))
+    record { agreeing = omega (arith, end, c.loop-n.invariant.2); within = (omega arith, omega arith) }

@@ -3,4 +3,4 @@ use Rattle.lines.proofs.Steps.{done_on}
 use Rattle.line_reader.proofs.field.line.commit.Goals as goal
 
 pub returns : goal.returns
-returns c = search (rules, c.in-ok-transaction.ensures.on, done_on)
+returns c = search (rules, c.in_ok-transaction.ensures.on, done_on)

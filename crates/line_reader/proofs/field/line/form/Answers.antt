@@ -43,7 +43,7 @@ returns-in-a c =
     let is : s ≡ 97 ∷ 32 ∷ take (length s - 2) (drop 2 s) = search (rules, two_and_rest) in
     c.abort.ensures ∙ sym (ap (parse forms 1) is)
 
-pub returns-in-default-2 : goal.returns-in-default-2
-returns-in-default-2 c =
+pub returns-in_default-2 : goal.returns-in_default-2
+returns-in_default-2 c =
     let none : is_letter (get_or c.args.text.now 0 0) ≡ false = search rules in
     no_letter c.args.text.now (search rules) none
