@@ -1,5 +1,5 @@
 -- A table and each layer are graphs: the proofs that their implementations give.
-use Rattle.std.specs.Prelude.{◌≡◌, ℕ, ◌+◌, ◌*◌, ◌%◌, ◌<◌, ◌≤◌, min, max, Bool, false, cond, not, ◌&&◌, List, ◌==◌, bit_and, bit_or, nat_lt, slice_index, refl}
+use Rattle.std.specs.Prelude.{◌≡◌, ℕ, ◌+◌, ◌*◌, ◌%◌, ◌<◌, ◌≤◌, min, max, false, not, ◌&&◌, List, ◌==◌, bit_and, bit_or, nat_lt, slice_index, refl}
 use Rattle.std.proofs.Common.{ap, ◌∙◌, arith}
 use Rattle.std.proofs.lemmas.Nat.{and_le_l, or_lt}
 use Rattle.std.proofs.lemmas.Bool.{cond_both, cond-false, and_left, and_right, le-ltb, eq-eqb, not_from_true}

@@ -1,4 +1,6 @@
 // Graphs of at most 256 vertices, whose edges have kinds: a table of bytes, one worked out from where vertices begin and end, and layers over any graphs. A vertex is a number, from 0 on.
+#![tactic(auto)]
+
 ghost use Rattle.std.specs.Prelude.{◌≡◌, ℕ, min, max};
 ghost use Rattle.graph.specs.Edges.{WellFormed, tabled, filtered, united};
 ghost use Rattle.graph.specs.Graphs.{tabled_well, filtered_well, united_well};

@@ -1,5 +1,5 @@
 -- The bytes of pairs: one of them set, and the first of them cleared.
-use Rattle.std.proofs.Common.{◌≡◌, ℕ, ◌+◌, ◌*◌, ◌<◌, ◌≤◌, min, Bool, false, cond, ◌&&◌, eqb, ◌≢◌, List, ◌++◌, length, get_or, drop, set, sym, refl, ap, ◌∙◌, subst, inl, inr, arith, length-append, length-drop}
+use Rattle.std.proofs.Common.{◌≡◌, ℕ, ◌+◌, ◌*◌, ◌<◌, min, false, cond, ◌&&◌, eqb, ◌≢◌, List, ◌++◌, length, get_or, drop, set, sym, ◌∙◌, inl, inr, arith, length-append, length-drop}
 use lib.Bits.{bit_or}
 use Rattle.std.proofs.lemmas.List.{get_or-set_same, get_or-set_other, get_or_append_left, get_or_past}
 use Rattle.std.proofs.lemmas.Bool.{cases_eq, cases_lt, and_left, and_right, and_from, eq-eqb, ne_eqb}

@@ -1,5 +1,7 @@
 // A table of kinds in lent bytes: byte 256 * tail + head has the kinds of the edges from tail to head. Its 256 vertices take
 // 65,536 bytes; what lies past them is never written.
+#![tactic(auto)]
+
 ghost use Rattle.std.specs.Prelude.{◌≡◌, ℕ, ◌<◌, ◌≤◌, ◌&&◌, length, drop, if◌then◌else◌, ◌==◌, bit_or, nat_eq};
 ghost use Rattle.graph.specs.Kinds.{bit_of};
 ghost use Rattle.verdicts.specs.Tables.{byte};

@@ -1,4 +1,6 @@
 // What a value stands for, and a token by which a generic struct can keep a fact about that.
+#![tactic(auto)]
+
 ghost use Rattle.std.specs.Prelude.{◌≡◌, List};
 ghost use base.Fml.{feq};
 ghost use denote.Sharing.{said};
@@ -27,7 +29,7 @@ pub struct Known<T: Lists<E>, E> {
 impl<T: Lists<E>, E> Model for Known<T, E> {
     ghost also_owns = { λ k. feq _ (T.Lists.items k.of) k.list };
 
-    ghost also_shares = { λ k _ κ. said (feq _ (T.Lists.items k.of) k.list) tt κ };
+    ghost also_shares = { λ k _ κ. said (feq _ (T.Lists.items k.of) k.list) κ };
 }
 
 impl<T: Lists<E>, E> Known<T, E> {

@@ -1,5 +1,5 @@
 -- The bits of one word: under `|`, `&` and `!`, and below its lowest set bit.
-use Rattle.std.proofs.Common.{◌≡◌, ℕ, zero, suc, ◌-◌, ◌*◌, ◌/◌, ◌%◌, ◌^◌, ◌<◌, min, max, Bool, true, false, not, ◌&&◌, ◌||◌, eqb, sym, refl, ap, ◌∙◌, inl, inr, pow-suc, one-add, arith}
+use Rattle.std.proofs.Common.{◌≡◌, ℕ, zero, suc, ◌-◌, ◌*◌, ◌/◌, ◌%◌, ◌^◌, ◌<◌, min, max, not, ◌&&◌, ◌||◌, eqb, sym, refl, ap, ◌∙◌, inl, inr, pow-suc, one-add, arith}
 use native.Mathlib.Nat.{div_self, zero-div}
 use lib.Bits.{bit_and, bit_or, and_step, or_step}
 use lib.Count.{count_trailing_zeros, under}
@@ -23,11 +23,11 @@ or_low a b = omega (arith, or_step a b)
 and_low : (a b : ℕ) → bit_and a b % 2 ≡ min (a % 2) (b % 2)
 and_low a b = omega (arith, and_step a b)
 
-bit_or : (a b k : ℕ) → bit (bit_or a b) k ≡ max (bit a k) (bit b k)
-bit_or a b k = ap (λ (x : ℕ). x % 2) (or_shr a b k) ∙ or_low (a / 2 ^ k) (b / 2 ^ k)
+bit_of_or : (a b k : ℕ) → bit (bit_or a b) k ≡ max (bit a k) (bit b k)
+bit_of_or a b k = ap (λ (x : ℕ). x % 2) (or_shr a b k) ∙ or_low (a / 2 ^ k) (b / 2 ^ k)
 
-bit_and : (a b k : ℕ) → bit (bit_and a b) k ≡ min (bit a k) (bit b k)
-bit_and a b k = ap (λ (x : ℕ). x % 2) (and_shr a b k) ∙ and_low (a / 2 ^ k) (b / 2 ^ k)
+bit_of_and : (a b k : ℕ) → bit (bit_and a b) k ≡ min (bit a k) (bit b k)
+bit_of_and a b k = ap (λ (x : ℕ). x % 2) (and_shr a b k) ∙ and_low (a / 2 ^ k) (b / 2 ^ k)
 
 bit_pow_same : (j : ℕ) → bit (2 ^ j) j ≡ 1
 bit_pow_same j = ap (λ (x : ℕ). x % 2) (div_self (pow_pos j))
@@ -52,7 +52,7 @@ bit_not (suc n) x (suc k) h l =
 -- a bit is set in `x & y` where it is in both
 pub and_word : (x y j : ℕ) → eqb (bit (bit_and x y) j) 1 ≡ (eqb (bit x j) 1 && eqb (bit y j) 1)
 and_word x y j =
-    let e = bit_and x y j in
+    let e = bit_of_and x y j in
     let s = bit_small x j in
     let t = bit_small y j in
     grind (arith, nat_tests)
@@ -61,7 +61,7 @@ and_word x y j =
 pub or_one : (w j k : ℕ) → j < 64 → eqb (bit (bit_or w ((1 * 2 ^ j) % 2 ^ 64)) k) 1 ≡ (eqb (bit w k) 1 || eqb k j)
 or_one w j k h =
     let shifted : bit (bit_or w ((1 * 2 ^ j) % 2 ^ 64)) k ≡ max (bit w k) (bit (2 ^ j) k) =
-    ap (λ (x : ℕ). bit (bit_or w x) k) (one_shl j 64 h) ∙ bit_or w (2 ^ j) k
+    ap (λ (x : ℕ). bit (bit_or w x) k) (one_shl j 64 h) ∙ bit_of_or w (2 ^ j) k
     in
     let s = bit_small w k in
     elim (cases_eq k j) [
@@ -73,7 +73,7 @@ or_one w j k h =
 pub and_not_one : (w j k : ℕ) → j < 64 → k < 64 → eqb (bit (bit_and w (2 ^ 64 - 1 - (1 * 2 ^ j) % 2 ^ 64)) k) 1 ≡ (eqb (bit w k) 1 && not (eqb k j))
 and_not_one w j k h l =
     let shifted : bit (bit_and w (2 ^ 64 - 1 - (1 * 2 ^ j) % 2 ^ 64)) k ≡ min (bit w k) (1 - bit (2 ^ j) k) =
-    ap (λ (x : ℕ). bit (bit_and w (2 ^ 64 - 1 - x)) k) (one_shl j 64 h) ∙ bit_and w (2 ^ 64 - 1 - 2 ^ j) k
+    ap (λ (x : ℕ). bit (bit_and w (2 ^ 64 - 1 - x)) k) (one_shl j 64 h) ∙ bit_of_and w (2 ^ 64 - 1 - 2 ^ j) k
     ∙ ap (λ (x : ℕ). min (bit w k) x) (bit_not 64 (2 ^ j) k (pow_below j 64 h) l)
     in
     let s = bit_small w k in

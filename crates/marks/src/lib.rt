@@ -1,4 +1,6 @@
 // A set of marks, numbered from 0 to 255, in four words of 64 bits: mark 64 * q + r is bit r of word q.
+#![tactic(auto)]
+
 ghost use Rattle.std.specs.Prelude.{◌≡◌, ℕ, ◌<◌, false, not, ◌&&◌, ◌||◌, if◌then◌else◌, MatchOption, ◌==◌, nat_eq, nat_lt};
 ghost use Rattle.marks.specs.Members.{marked, Least};
 

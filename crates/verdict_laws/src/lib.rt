@@ -1,4 +1,6 @@
 // Laws of versions, orders and reruns. Each is the contract of a function that does nothing.
+#![tactic(auto)]
+
 ghost use Rattle.verdict_laws.specs.Laws.{VersionsLaw, OrderListsVersions, OrderGoesAlong, OneOrder, OrderExcludesWalks, RerunLaw, ReportedReplays};
 
 // The versions of an item are strictly ordered, and each has one next version at most.

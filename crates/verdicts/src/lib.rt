@@ -1,4 +1,6 @@
 // Findings on a recorded run; what they mean is in specs/.
+#![tactic(auto)]
+
 ghost use Rattle.std.specs.Prelude.{◌≡◌};
 ghost use Rattle.verdicts.specs.Claims.{KnownRuns};
 ghost use Rattle.verdicts.specs.Names.{number as finding-number, name as finding-name};

@@ -1,4 +1,4 @@
-use Rattle.std.proofs.Common.{◌≡◌, ◌+◌, ◌*◌, sym, subst, arith}
+use Rattle.std.proofs.Common.{◌+◌, ◌*◌, arith}
 use Rattle.std.proofs.lemmas.List.{drop-set-lt}
 use Rattle.kind_table.proofs.Pairs.{byte_more}
 use Rattle.kind_table.proofs.add.Goals as goal

@@ -21,64 +21,64 @@ shows rank es bytes v m kinds = tables_show_edges rank es bytes (length (committ
 
 pub returns-in-Walk : goal.returns-in-Walk
 returns-in-Walk c = record {
-  few = decided_few G0 c.search-kinds-by-ww.result c.decision.result c.decision.ensures c.search-kinds-by-ww.ensures.few;
+  few = decided_few G0 c.search_kinds-by_ww.result c.decision.result c.decision.ensures c.search_kinds-by_ww.ensures.few;
   settled = λ rank es t v fit kinds.
-      let on = c.args.real-time in
+      let on = c.args.real_time in
       let table = shows rank es c.args.bytes.now c.args.vertices.now v kinds in
-      let found = c.search-kinds-by-ww.new.found in
+      let found = c.search_kinds-by_ww.new.found in
       let n = c.in-Walk.field-0 in
-      settles_walk rank es on G0 n found c.search-kinds-by-ww.result c.decision.result c.decision.ensures c.in-Walk.is
+      settles_walk rank es on G0 n found c.search_kinds-by_ww.result c.decision.result c.decision.ensures c.in-Walk.is
       (first_g0 rank es on found n (c.in-Walk.ensures.searched rank es on (walk_kinds G0) v fit (table.g0 on)));
 }
 
-pub returns-in-Walk-by-wr : goal.returns-in-Walk-by-wr
-returns-in-Walk-by-wr c = record {
-  few = decided_few G1c c.search-kinds-by-wr.result c.decision-in-Walk-by-wr.result c.decision-in-Walk-by-wr.ensures c.search-kinds-by-wr.ensures.few;
+pub returns-in-Walk-by_wr : goal.returns-in-Walk-by_wr
+returns-in-Walk-by_wr c = record {
+  few = decided_few G1c c.search_kinds-by_wr.result c.decision-in-Walk-by_wr.result c.decision-in-Walk-by_wr.ensures c.search_kinds-by_wr.ensures.few;
   settled = λ rank es t v fit kinds.
-      let on = c.args.real-time in
+      let on = c.args.real_time in
       let table = shows rank es c.args.bytes.now c.args.vertices.now v kinds in
-      let found = c.search-kinds-by-wr.new.found in
-      let n = c.in-Walk-by-wr.field-0 in
-      let none = ordered rank es on G0 _ _ (c.in-default.ensures.searched rank es on (walk_kinds G0) v fit (table.g0 on)) in
-      settles_walk rank es on G1c n found c.search-kinds-by-wr.result c.decision-in-Walk-by-wr.result c.decision-in-Walk-by-wr.ensures c.in-Walk-by-wr.is
-      (first_g1c rank es on found n none (c.in-Walk-by-wr.ensures.searched rank es on (walk_kinds G1c) v fit (table.g1c on)));
+      let found = c.search_kinds-by_wr.new.found in
+      let n = c.in-Walk-by_wr.field-0 in
+      let none = ordered rank es on G0 _ _ (c.in_default.ensures.searched rank es on (walk_kinds G0) v fit (table.g0 on)) in
+      settles_walk rank es on G1c n found c.search_kinds-by_wr.result c.decision-in-Walk-by_wr.result c.decision-in-Walk-by_wr.ensures c.in-Walk-by_wr.is
+      (first_g1c rank es on found n none (c.in-Walk-by_wr.ensures.searched rank es on (walk_kinds G1c) v fit (table.g1c on)));
 }
 
-pub returns-in-Walk-by-rw : goal.returns-in-Walk-by-rw
-returns-in-Walk-by-rw c = record {
-  few = decided_few G2 c.search-kinds-by-rw.result c.decision-in-Walk-by-rw.result c.decision-in-Walk-by-rw.ensures c.search-kinds-by-rw.ensures.few;
+pub returns-in-Walk-by_rw : goal.returns-in-Walk-by_rw
+returns-in-Walk-by_rw c = record {
+  few = decided_few G2 c.search_kinds-by_rw.result c.decision-in-Walk-by_rw.result c.decision-in-Walk-by_rw.ensures c.search_kinds-by_rw.ensures.few;
   settled = λ rank es t v fit kinds.
-      let on = c.args.real-time in
+      let on = c.args.real_time in
       let table = shows rank es c.args.bytes.now c.args.vertices.now v kinds in
-      let found = c.search-kinds-by-rw.new.found in
-      let n = c.in-Walk-by-rw.field-0 in
-      let none = ordered rank es on G0 _ _ (c.in-default.ensures.searched rank es on (walk_kinds G0) v fit (table.g0 on)) in
-      let none-wr = ordered rank es on G1c _ _ (c.in-default-by-wr.ensures.searched rank es on (walk_kinds G1c) v fit (table.g1c on)) in
-      settles_walk rank es on G2 n found c.search-kinds-by-rw.result c.decision-in-Walk-by-rw.result c.decision-in-Walk-by-rw.ensures c.in-Walk-by-rw.is
-      (first_g2 rank es on found n none none-wr (c.in-Walk-by-rw.ensures.searched rank es on (walk_kinds G2) v fit (table.g2 on)));
+      let found = c.search_kinds-by_rw.new.found in
+      let n = c.in-Walk-by_rw.field-0 in
+      let none = ordered rank es on G0 _ _ (c.in_default.ensures.searched rank es on (walk_kinds G0) v fit (table.g0 on)) in
+      let none-wr = ordered rank es on G1c _ _ (c.in_default-by_wr.ensures.searched rank es on (walk_kinds G1c) v fit (table.g1c on)) in
+      settles_walk rank es on G2 n found c.search_kinds-by_rw.result c.decision-in-Walk-by_rw.result c.decision-in-Walk-by_rw.ensures c.in-Walk-by_rw.is
+      (first_g2 rank es on found n none none-wr (c.in-Walk-by_rw.ensures.searched rank es on (walk_kinds G2) v fit (table.g2 on)));
 }
 
-pub returns-then-real-time : goal.returns-then-real-time
-returns-then-real-time c = record {
-  few = decided_few Rt c.search-all.result c.decision-then-real-time.result c.decision-then-real-time.ensures c.search-all.ensures.few;
+pub returns-then-real_time : goal.returns-then-real_time
+returns-then-real_time c = record {
+  few = decided_few Rt c.search_all.result c.decision-then-real_time.result c.decision-then-real_time.ensures c.search_all.ensures.few;
   settled = λ rank es t v fit kinds.
-      let on = c.args.real-time in
+      let on = c.args.real_time in
       let table = shows rank es c.args.bytes.now c.args.vertices.now v kinds in
-      let none = ordered rank es on G0 _ _ (c.in-default.ensures.searched rank es on (walk_kinds G0) v fit (table.g0 on)) in
-      let none-wr = ordered rank es on G1c _ _ (c.in-default-by-wr.ensures.searched rank es on (walk_kinds G1c) v fit (table.g1c on)) in
-      let none-rw = ordered rank es on G2 _ _ (c.in-default-by-rw.ensures.searched rank es on (walk_kinds G2) v fit (table.g2 on)) in
-      settles_all rank es on none none-wr none-rw c.if-real-time.true c.search-all.new.found c.search-all.result c.decision-then-real-time.result c.decision-then-real-time.ensures
-      (subst (λ (b : Bool). Searched rank es b every_kind c.search-all.new.found c.search-all.result) (sym c.if-real-time.true) (c.search-all.ensures.searched rank es t v fit kinds));
+      let none = ordered rank es on G0 _ _ (c.in_default.ensures.searched rank es on (walk_kinds G0) v fit (table.g0 on)) in
+      let none-wr = ordered rank es on G1c _ _ (c.in_default-by_wr.ensures.searched rank es on (walk_kinds G1c) v fit (table.g1c on)) in
+      let none-rw = ordered rank es on G2 _ _ (c.in_default-by_rw.ensures.searched rank es on (walk_kinds G2) v fit (table.g2 on)) in
+      settles_all rank es on none none-wr none-rw c.if-real_time.true c.search_all.new.found c.search_all.result c.decision-then-real_time.result c.decision-then-real_time.ensures
+      (subst (λ (b : Bool). Searched rank es b every_kind c.search_all.new.found c.search_all.result) (sym c.if-real_time.true) (c.search_all.ensures.searched rank es t v fit kinds));
 }
 
-pub returns-else-real-time : goal.returns-else-real-time
-returns-else-real-time c = record {
-  few = decided_few G2 c.search-kinds-by-rw.result c.decision-else-real-time.result c.decision-else-real-time.ensures c.search-kinds-by-rw.ensures.few;
+pub returns-else-real_time : goal.returns-else-real_time
+returns-else-real_time c = record {
+  few = decided_few G2 c.search_kinds-by_rw.result c.decision-else-real_time.result c.decision-else-real_time.ensures c.search_kinds-by_rw.ensures.few;
   settled = λ rank es t v fit kinds.
       let table = shows rank es c.args.bytes.now c.args.vertices.now v kinds in
-      let found = c.search-kinds-by-rw.new.found in
-      let n = c.in-default-by-rw.field-0 in
-      subst (λ (b : Bool). Settles rank es b c.decision-else-real-time.result found) (sym c.if-real-time.false)
-      (settles_order rank es false G2 n found c.search-kinds-by-rw.result c.decision-else-real-time.result c.decision-else-real-time.ensures c.in-default-by-rw.is
-      (whole_order_off rank es found n (c.in-default-by-rw.ensures.searched rank es false (walk_kinds G2) v fit (table.g2 false))));
+      let found = c.search_kinds-by_rw.new.found in
+      let n = c.in_default-by_rw.field-0 in
+      subst (λ (b : Bool). Settles rank es b c.decision-else-real_time.result found) (sym c.if-real_time.false)
+      (settles_order rank es false G2 n found c.search_kinds-by_rw.result c.decision-else-real_time.result c.decision-else-real_time.ensures c.in_default-by_rw.is
+      (whole_order_off rank es found n (c.in_default-by_rw.ensures.searched rank es false (walk_kinds G2) v fit (table.g2 false))));
 }

@@ -12,9 +12,9 @@ returns c =
     let n = c.count.result in
     let few : min n 256 ≤ 256 = omega arith in
     record {
-      few = found_few (min n 256) (joined (filtered (tabled (min n 256) bytes) set)) _ _ c.search-in.result few c.search-in.ensures;
+      few = found_few (min n 256) (joined (filtered (tabled (min n 256) bytes) set)) _ _ c.search_in.result few c.search_in.ensures;
       searched = λ rank es real_time kinds k fit shown.
           let all : length (committed es) ≡ min n 256 = omega (arith, c.count.ensures.all (committed es) k, k.few) in
           searched rank es real_time kinds (min n 256) (joined (filtered (tabled (min n 256) bytes) set)) fit
-          (subst (λ (m : ℕ). ShowsEdges rank es real_time kinds m (joined (filtered (tabled m bytes) set))) all shown) _ _ c.search-in.result c.search-in.ensures;
+          (subst (λ (m : ℕ). ShowsEdges rank es real_time kinds m (joined (filtered (tabled m bytes) set))) all shown) _ _ c.search_in.result c.search_in.ensures;
     }

@@ -11,17 +11,17 @@ use Rattle.drawing.proofs.Words.{rw_one, rw_none}
 use Rattle.drawing.proofs.edges.draw_rw.Goals as goal
 use Rattle.drawing.proofs.edges.draw_rw.Goals.{then-not-at-pl3-via-then-not-at-pl3, then-not-at-pl3-via-else-not-at-pl3+then-not-is-ordered}
 
-pub returns-then-not-at-pl3 : goal.returns-then-not-at-pl3
-returns-then-not-at-pl3 g c =
+pub returns-then-not-at_pl3 : goal.returns-then-not-at_pl3
+returns-then-not-at_pl3 g c =
     let rank = g.O.VersionOrder.ranks c.args.order.now in
     let t = c.args.reader in
     let x = c.args.item in
     let w = c.args.writer in
     record {
       shows = λ es set d n.
-          let off : (at_pl3 es t && is_ordered es w) ≡ false = elim c.then-not-at-pl3.branch [
-            | then-not-at-pl3-via-then-not-at-pl3 y ↦ and_left (at_pl3 es t) (is_ordered es w) (sym (c.at-pl3.ensures es d.tracks) ∙ y.if-not-at-pl3.true)
-            | then-not-at-pl3-via-else-not-at-pl3+then-not-is-ordered y ↦ and_right (at_pl3 es t) (is_ordered es w) (sym (y.is-ordered.ensures es d.tracks) ∙ y.if-not-is-ordered.true)
+          let off : (at_pl3 es t && is_ordered es w) ≡ false = elim c.then-not-at_pl3.branch [
+            | then-not-at_pl3-via-then-not-at_pl3 y ↦ and_left (at_pl3 es t) (is_ordered es w) (sym (c.at_pl3.ensures es d.tracks) ∙ y.if-not-at_pl3.true)
+            | then-not-at_pl3-via-else-not-at_pl3+then-not-is_ordered y ↦ and_right (at_pl3 es t) (is_ordered es w) (sym (y.is_ordered.ensures es d.tracks) ∙ y.if-not-is_ordered.true)
           ] in
           shows_none es Rw set c.args.bytes.now (draws rank es Rw (Read t x (w, n)))
           (λ i j. and_right (apart es i j) (draws rank es Rw (Read t x (w, n)) i j) (rw_none rank es t x w n (inl off) i j));
@@ -39,20 +39,20 @@ returns-in-Some g c =
       shows = λ es set d n h.
           let next = successor_some rank es x w (u, _) (c.in-Some.ensures es d.tracks (c.transactions.ensures (committed es) d.numbers)) in
           shows_as es Rw set c.join.new.bytes (edge t u) (draws rank es Rw (Read t x (w, n)))
-          (λ i j. sym (rw_one rank es t x w n (g.O.VersionOrder.lawful c.args.order.now) d.fit (sym (c.at-pl3.ensures es d.tracks) ∙ c.if-not-at-pl3.false) (sym (c.is-ordered.ensures es d.tracks) ∙ c.if-not-is-ordered.false) u next i j))
+          (λ i j. sym (rw_one rank es t x w n (g.O.VersionOrder.lawful c.args.order.now) d.fit (sym (c.at_pl3.ensures es d.tracks) ∙ c.if-not-at_pl3.false) (sym (c.is_ordered.ensures es d.tracks) ∙ c.if-not-is_ordered.false) u next i j))
           (c.join.ensures.shows es set d.numbers d.enough h);
       later = c.join.ensures.later;
     }
 
-pub returns-in-default : goal.returns-in-default
-returns-in-default g c =
+pub returns-in_default : goal.returns-in_default
+returns-in_default g c =
     let rank = g.O.VersionOrder.ranks c.args.order.now in
     let t = c.args.reader in
     let x = c.args.item in
     let w = c.args.writer in
     record {
       shows = λ es set d n.
-          let none = successor_none rank es x w (c.in-default.ensures es d.tracks (c.transactions.ensures (committed es) d.numbers)) in
+          let none = successor_none rank es x w (c.in_default.ensures es d.tracks (c.transactions.ensures (committed es) d.numbers)) in
           shows_none es Rw set c.args.bytes.now (draws rank es Rw (Read t x (w, n)))
           (λ i j. and_right (apart es i j) (draws rank es Rw (Read t x (w, n)) i j) (rw_none rank es t x w n (inr none) i j));
       later = refl {a = drop 65536 c.args.bytes.now};

@@ -8,25 +8,25 @@ use Rattle.drawing.proofs.Shown.{shows_as, shows_none}
 use Rattle.drawing.proofs.Words.{wr_one, wr_none}
 use Rattle.drawing.proofs.edges.draw_wr.Goals as goal
 
-pub returns-then-above-pl1 : goal.returns-then-above-pl1
-returns-then-above-pl1 c =
+pub returns-then-above_pl1 : goal.returns-then-above_pl1
+returns-then-above_pl1 c =
     let t = c.args.reader in
     let w = c.args.writer in
     record {
       shows = λ es set d rank x n h.
           shows_as es Wr set c.join.new.bytes (edge w t) (draws rank es Wr (Read t x (w, n)))
-          (λ i j. sym (wr_one rank es t x w n (sym (c.above-pl1.ensures es d.tracks) ∙ c.if-above-pl1.true) i j))
+          (λ i j. sym (wr_one rank es t x w n (sym (c.above_pl1.ensures es d.tracks) ∙ c.if-above_pl1.true) i j))
           (c.join.ensures.shows es set d.numbers d.enough h);
       later = c.join.ensures.later;
     }
 
-pub returns-else-above-pl1 : goal.returns-else-above-pl1
-returns-else-above-pl1 c =
+pub returns-else-above_pl1 : goal.returns-else-above_pl1
+returns-else-above_pl1 c =
     let t = c.args.reader in
     let w = c.args.writer in
     record {
       shows = λ es set d rank x n.
           shows_none es Wr set c.args.bytes.now (draws rank es Wr (Read t x (w, n)))
-          (λ i j. and_right (apart es i j) (draws rank es Wr (Read t x (w, n)) i j) (wr_none rank es t x w n (sym (c.above-pl1.ensures es d.tracks) ∙ c.if-above-pl1.false) i j));
+          (λ i j. and_right (apart es i j) (draws rank es Wr (Read t x (w, n)) i j) (wr_none rank es t x w n (sym (c.above_pl1.ensures es d.tracks) ∙ c.if-above_pl1.false) i j));
       later = refl {a = drop 65536 c.args.bytes.now};
     }

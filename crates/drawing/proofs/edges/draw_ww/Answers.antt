@@ -25,14 +25,14 @@ returns-in-Some g c =
       later = c.join.ensures.later;
     }
 
-pub returns-in-default : goal.returns-in-default
-returns-in-default g c =
+pub returns-in_default : goal.returns-in_default
+returns-in_default g c =
     let rank = g.O.VersionOrder.ranks c.args.order.now in
     let t = c.args.transaction in
     let x = c.args.item in
     record {
       shows = λ es set d.
-          let none = successor_none rank es x t (c.in-default.ensures es d.tracks (c.transactions.ensures (committed es) d.numbers)) in
+          let none = successor_none rank es x t (c.in_default.ensures es d.tracks (c.transactions.ensures (committed es) d.numbers)) in
           shows_none es Ww set c.args.bytes.now (draws rank es Ww (Write t x)) (λ i j. and_right (apart es i j) (draws rank es Ww (Write t x) i j) (ww_none rank es t x none i j));
       later = refl {a = drop 65536 c.args.bytes.now};
     }

@@ -9,15 +9,15 @@ returns-then-tail-head c = record {
   later = refl {a = drop 65536 c.args.bytes.now};
 }
 
-pub returns-in-default : goal.returns-in-default
-returns-in-default c = record {
-  shows = λ es set k long. shows_no_edge es c.args.tail c.args.head c.args.kind set (inr (inl (c.in-default.ensures.place (committed es) k))) c.args.bytes.now;
+pub returns-in_default : goal.returns-in_default
+returns-in_default c = record {
+  shows = λ es set k long. shows_no_edge es c.args.tail c.args.head c.args.kind set (inr (inl (c.in_default.ensures.place (committed es) k))) c.args.bytes.now;
   later = refl {a = drop 65536 c.args.bytes.now};
 }
 
-pub returns-in-default-vertex : goal.returns-in-default-vertex
-returns-in-default-vertex c = record {
-  shows = λ es set k long. shows_no_edge es c.args.tail c.args.head c.args.kind set (inr (inr (c.in-default-vertex.ensures.place (committed es) k))) c.args.bytes.now;
+pub returns-in_default-vertex : goal.returns-in_default-vertex
+returns-in_default-vertex c = record {
+  shows = λ es set k long. shows_no_edge es c.args.tail c.args.head c.args.kind set (inr (inr (c.in_default-vertex.ensures.place (committed es) k))) c.args.bytes.now;
   later = refl {a = drop 65536 c.args.bytes.now};
 }
 

@@ -13,12 +13,12 @@ loop-done-preserved g c =
     let rank = g.O.VersionOrder.ranks c.args.order.now in
     let es = g.H.Lists.items c.args.history.now in
     let p = c.loop-done.done in
-    let bytes = c.draw-event.new.bytes in
+    let bytes = c.draw_event.new.bytes in
     let lt : p < length es = omega (arith, c.len-done-end.ensures.length, c.loop-done-test.true) in (
       λ d.
           let before = still_drawable c.args.table.now c.args.vertices.now es bytes c.loop-done.bytes (omega arith) d in
-          shows_further rank es p c.event.result bytes lt c.event.ensures (c.draw-event.ensures.shows es (drawn_by rank es (take p es)) before (c.loop-done.invariant.0 before)),
-      c.draw-event.ensures.later ∙ c.loop-done.invariant.1,
+          shows_further rank es p c.event.result bytes lt c.event.ensures (c.draw_event.ensures.shows es (drawn_by rank es (take p es)) before (c.loop-done.invariant.0 before)),
+      c.draw_event.ensures.later ∙ c.loop-done.invariant.1,
     )
 
 pub returns : goal.returns

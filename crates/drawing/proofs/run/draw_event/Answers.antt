@@ -7,12 +7,12 @@ use Rattle.drawing.specs.EdgeSets.{Shows, adding, draws, drawing}
 use Rattle.drawing.proofs.Events.{still_drawable, shows_write, shows_read, shows_quiet, other_quiet, uncommitted_quiet}
 use Rattle.drawing.proofs.run.draw_event.Goals as goal
 
-pub returns-then-not-has-committed : goal.returns-then-not-has-committed
-returns-then-not-has-committed g c =
+pub returns-then-not-has_committed : goal.returns-then-not-has_committed
+returns-then-not-has_committed g c =
     let rank = g.O.VersionOrder.ranks c.args.order.now in
     record {
       shows = λ es set d.
-          let off : has_committed es (transaction_of c.args.event) ≡ false = subst (λ t. has_committed es t ≡ false) c.transaction.ensures (sym (c.transaction-2.ensures.stage es d.tracks) ∙ sym c.is_committed.ensures ∙ c.if-not-has-committed.true) in
+          let off : has_committed es (transaction_of c.args.event) ≡ false = subst (λ t. has_committed es t ≡ false) c.transaction.ensures (sym (c.transaction-2.ensures.stage es d.tracks) ∙ sym c.is_committed.ensures ∙ c.if-not-has_committed.true) in
           shows_quiet rank es set c.args.bytes.now c.args.event (uncommitted_quiet rank es c.args.event off);
       later = refl {a = drop 65536 c.args.bytes.now};
     }
@@ -22,9 +22,9 @@ returns-in-Write g c =
     let rank = g.O.VersionOrder.ranks c.args.order.now in
     record {
       shows = λ es set d h.
-          subst (λ e. Shows es (drawing rank es e set) c.draw-ww.new.bytes) (sym c.in-Write.is)
-          (shows_write rank es set c.draw-ww.new.bytes c.in-Write.transaction c.in-Write.item (c.draw-ww.ensures.shows es set d h));
-      later = c.draw-ww.ensures.later;
+          subst (λ e. Shows es (drawing rank es e set) c.draw_ww.new.bytes) (sym c.in-Write.is)
+          (shows_write rank es set c.draw_ww.new.bytes c.in-Write.transaction c.in-Write.item (c.draw_ww.ensures.shows es set d h));
+      later = c.draw_ww.ensures.later;
     }
 
 pub returns-in-Read : goal.returns-in-Read
@@ -36,17 +36,17 @@ returns-in-Read g c =
     let n = c.in-Read.version-1 in
     record {
       shows = λ es set d h.
-          let flow = c.draw-wr.ensures.shows es set d rank x n h in
-          let d' = still_drawable c.args.table.now c.args.vertices.now es c.args.bytes.now c.draw-wr.new.bytes (omega arith) d in
-          subst (λ e. Shows es (drawing rank es e set) c.draw-rw.new.bytes) (sym c.in-Read.is)
-          (shows_read rank es set c.draw-rw.new.bytes t x (w, n) (c.draw-rw.ensures.shows es (adding Wr (draws rank es Wr (Read t x (w, n))) set) d' n flow));
-      later = c.draw-rw.ensures.later ∙ c.draw-wr.ensures.later;
+          let flow = c.draw_wr.ensures.shows es set d rank x n h in
+          let d' = still_drawable c.args.table.now c.args.vertices.now es c.args.bytes.now c.draw_wr.new.bytes (omega arith) d in
+          subst (λ e. Shows es (drawing rank es e set) c.draw_rw.new.bytes) (sym c.in-Read.is)
+          (shows_read rank es set c.draw_rw.new.bytes t x (w, n) (c.draw_rw.ensures.shows es (adding Wr (draws rank es Wr (Read t x (w, n))) set) d' n flow));
+      later = c.draw_rw.ensures.later ∙ c.draw_wr.ensures.later;
     }
 
-pub returns-in-default : goal.returns-in-default
-returns-in-default g c =
+pub returns-in_default : goal.returns-in_default
+returns-in_default g c =
     let rank = g.O.VersionOrder.ranks c.args.order.now in
     record {
-      shows = λ es set d. shows_quiet rank es set c.args.bytes.now c.args.event (other_quiet rank es c.args.event c.in-default.not-Write c.in-default.not-Read);
+      shows = λ es set d. shows_quiet rank es set c.args.bytes.now c.args.event (other_quiet rank es c.args.event c.in_default.not-Write c.in_default.not-Read);
       later = refl {a = drop 65536 c.args.bytes.now};
     }

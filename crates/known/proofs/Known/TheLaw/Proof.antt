@@ -3,6 +3,7 @@ use Rattle.std.proofs.Common.{[], ◌∷◌}
 use denote.RattleType.{RattleType}
 use denote.Param.Laws.{Laws}
 use denote.Param.Shared.{copy_shared}
+use denote.SharingLaws.{said_shr_laws}
 use denote.Struct.Laws.{field_copy}
 use denote.Struct.Lending.{Lends-said, of_Lends}
 use denote.Struct.Tuple.{Tuple}
@@ -15,5 +16,6 @@ pub shares : (T E : RattleType) (g : Ghosts T.Denot E.Denot) (L : Laws T) (K : L
 shares T E g L K =
     let both = Tuple (T ∷ E ∷ []) in
     of_Lends (C.struct T E g) (C.the_codes T.Denot E.Denot T.coded E.coded (P.the_row both).coded) (C.the_heap T E g) (C.the_lent T E g)
+    (λ d p. said_shr_laws (C.the_heap T E g d) tt)
     (copy_shared (P.the_field both) (field_copy (P.the_type both) tt), tt)
     (λ M 𝓤 𝓛 d p. Lends-said 𝓛 (C.the_heap T E g d) tt (C.the_row T E g).lives)

@@ -22,14 +22,14 @@ loop-transaction-preserved g c = λ es k.
     let lt : i < length cs = omega arith in
     let t = get_or cs i 0 in
     let inv = c.loop-transaction.invariant es k in
-    subst (λ (l : List ℕ). Least P R l c.if-comes-after.least) (sym (take_more cs i 0 lt))
-    (elim c.if-comes-after.branch [
-      | then-comes-after w ↦
-          subst (λ (o : Option (ℕ × ℕ)). Least P R (take i cs ++ t ∷ []) o) (sym (w.least-is ∙ w.lesser-of-least.ensures))
-          (least_more P R (take i cs) c.loop-transaction.least t w.rank-of.result (sym (c.comes-after.ensures es k) ∙ w.if-comes-after.true) (w.rank-of.ensures es k) inv)
-      | else-comes-after w ↦
+    subst (λ (l : List ℕ). Least P R l c.if-comes_after.least) (sym (take_more cs i 0 lt))
+    (elim c.if-comes_after.branch [
+      | then-comes_after w ↦
+          subst (λ (o : Option (ℕ × ℕ)). Least P R (take i cs ++ t ∷ []) o) (sym (w.least-is ∙ w.lesser_of-least.ensures))
+          (least_more P R (take i cs) c.loop-transaction.least t w.rank_of.result (sym (c.comes_after.ensures es k) ∙ w.if-comes_after.true) (w.rank_of.ensures es k) inv)
+      | else-comes_after w ↦
           subst (λ (o : Option (ℕ × ℕ)). Least P R (take i cs ++ t ∷ []) o) (sym w.least-is)
-          (least_skip P R (take i cs) c.loop-transaction.least t (sym (c.comes-after.ensures es k) ∙ w.if-comes-after.false) inv)
+          (least_skip P R (take i cs) c.loop-transaction.least t (sym (c.comes_after.ensures es k) ∙ w.if-comes_after.false) inv)
     ])
 
 -- the least of all committed transactions

@@ -2,5 +2,5 @@ use Rattle.std.proofs.Common.{get_or, ap, ◌∙◌, arith}
 use Rattle.vertices.proofs.Steps.{get_d_zeros}
 use Rattle.vertices.proofs.numbering.Vertices.clear.Goals as goal
 
-pub invariant-of-self : goal.invariant-of-self
-invariant-of-self c = (c.args.self.now.long, (c.fill.ensures.len ∙ c.args.self.now.wide, (omega arith, ((λ k. omega (arith, ap (λ l. get_or l k 0) (c.fill.ensures.items (λ y h. h)) ∙ get_d_zeros _ k)), tt))))
+pub invariant_of-self : goal.invariant_of-self
+invariant_of-self c = (c.args.self.now.long, (c.fill.ensures.len ∙ c.args.self.now.wide, (omega arith, ((λ k. omega (arith, ap (λ l. get_or l k 0) (c.fill.ensures.items (λ y h. h)) ∙ get_d_zeros _ k)), tt))))

@@ -9,7 +9,7 @@ use Rattle.vertices.specs.declared.numbering.Vertices.{Vertices}
 use Rattle.vertices.specs.Numbering.{Numbers}
 use Rattle.vertices.proofs.Commits.{commit_admitted, committed_more, committed_other, admitted_at}
 use Rattle.vertices.proofs.numbering.Vertices.list.Goals as goal
-use Rattle.vertices.proofs.numbering.Vertices.list.Goals.{in-Commit, in-default}
+use Rattle.vertices.proofs.numbering.Vertices.list.Goals.{in-Commit, in_default}
 
 pub loop-done-preserved : goal.loop-done-preserved
 loop-done-preserved g c = λ fit.
@@ -30,9 +30,9 @@ loop-done-preserved g c = λ fit.
           subst (λ (v : Vertices). Numbers v (committed (take p es ++ e ∷ []))) (sym w.self-is)
           (subst (λ (cs : List ℕ). Numbers w.add.new.self cs) (sym (ap (λ (f : Event). committed (take p es ++ f ∷ [])) was ∙ committed_more (take p es) t))
           (w.add.ensures (committed (take p es)) before new.0 new.1))
-      | in-default w ↦
+      | in_default w ↦
           subst (λ (v : Vertices). Numbers v (committed (take p es ++ e ∷ []))) (sym w.self-is)
-          (subst (λ (cs : List ℕ). Numbers c.loop-done.self cs) (sym (committed_other (take p es) e w.in-default.not-Commit)) before)
+          (subst (λ (cs : List ℕ). Numbers c.loop-done.self cs) (sym (committed_other (take p es) e w.in_default.not-Commit)) before)
     ])
 
 pub returns : goal.returns
