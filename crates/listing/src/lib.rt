@@ -1,4 +1,6 @@
 // Listings: a text read into a recorder line by line, and any history written as one.
+#![tactic(auto)]
+
 mod fault;
 mod reading;
 mod writing;
