@@ -1,11 +1,11 @@
 -- Bytes that a word put elsewhere leaves as they were.
-use Rattle.std.proofs.Common.{◌≡◌, ℕ, suc, ◌+◌, ◌*◌, ◌/◌, ◌%◌, ◌<◌, ◌≤◌, Bool, true, false, cond, eqb, ◌≢◌, ◌⊎◌, List, length, get_or, set, refl, ◌∙◌, inl, inr, arith}
+use Rattle.std.proofs.Common.{◌≡◌, ℕ, suc, ◌+◌, ◌/◌, ◌%◌, ◌<◌, Bool, true, false, cond, eqb, List, length, get_or, ◌∙◌, inl, inr, arith}
 use Rattle.std.proofs.lemmas.List.{get_or-set_other}
 use Rattle.events.specs.declared.Event.{Event}
 use Rattle.events.specs.Fields.{transaction_of}
 use Rattle.image.specs.Words.{place, put_word}
 use Rattle.image.specs.Slots.{kind_of, item_of, level_or_writer_of, modification_of, put_event}
-use Rattle.image.specs.Chains.{used_slots, last_slot, linked, extended, entered}
+use Rattle.image.specs.Chains.{used_slots, last_slot, entered}
 use Rattle.image.proofs.Wording.{length-put, length-put_event}
 use Rattle.image_laws.specs.Bytes.{OutsideSlot, OutsideWord, Stays}
 

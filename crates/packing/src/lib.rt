@@ -1,4 +1,6 @@
 // Listings packed into images and back, and what an image keeps.
+#![tactic(auto)]
+
 mod keeping;
 mod packing;
 mod unpacking;
