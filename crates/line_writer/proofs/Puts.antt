@@ -74,12 +74,6 @@ lent out part piece at h p =
     p ∙ ap (λ (x : List ℕ). piece ++ drop (length piece) x) (take_rest out at) ∙ ap (λ (x : List ℕ). piece ++ x) (drop-drop (length piece) at out) in
     ap (λ (x : List ℕ). take at out ++ (part ++ x)) past ∙ ap (λ (x : List ℕ). take at out ++ x) (append-nil part ∙ rest)
 
--- a slice copied into a part
-pub copied : (out text part : List ℕ) (at k : ℕ) → k ≡ length text → part ≡ text → put_mid at k out part ≡ put at text out
-copied out text part at k q p =
-    ap₂ (λ (x : List ℕ) (j : ℕ). take at out ++ (x ++ drop j (drop at out))) p q
-    ∙ ap (λ (x : List ℕ). take at out ++ (text ++ x)) (drop-drop (length text) at out)
-
 pub bytes_of_line : (e : Event) → bytes_of e ≡ length (line e)
 unfolding line
 bytes_of_line Blank = refl
