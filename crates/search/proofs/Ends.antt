@@ -1,5 +1,5 @@
 -- How a search ends: with all vertices placed, which is the order, or with a closed walk.
-use Rattle.std.proofs.Common.{◌≡◌, ℕ, ◌+◌, ◌<◌, ◌≤◌, Bool, true, false, ◌&&◌, eqb, ltb, leb, List, [], ◌∷◌, ◌++◌, length, take, drop, sym, refl, ap, ◌∙◌, subst, arith}
+use Rattle.std.proofs.Common.{◌≡◌, ℕ, ◌≤◌, Bool, true, false, ltb, List, [], ◌∷◌, ◌++◌, length, take, sym, ap, ◌∙◌, subst, arith}
 use mathlib.Core.Path.{fun_ext}
 use Rattle.std.proofs.lemmas.List.{append-nil}
 use Rattle.std.proofs.lemmas.Bool.{and_parts, and_from, both_ways, lt-ltb, le-leb, eqb-true, false≢true}
@@ -7,7 +7,7 @@ use Rattle.marks.specs.declared.Marks.{Marks}
 use Rattle.graph.specs.Edges.{WellFormed, joined}
 use Rattle.search.specs.Words.{none, distinct}
 use Rattle.search.specs.Orders.{order}
-use Rattle.search.specs.Walks.{edge, leads, closed, closed_walk}
+use Rattle.search.specs.Walks.{edge, leads, closed}
 use Rattle.search.specs.Tails.{tail, tailless, Placed}
 use Rattle.search.specs.Answer.{IsOrder, IsWalk}
 use Rattle.search.proofs.Sets.{none_from}

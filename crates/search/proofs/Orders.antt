@@ -1,8 +1,8 @@
 -- The laws of orders: each vertex once, no edge backwards, no closed walk beside one, and one at most.
-use Rattle.std.proofs.Common.{◌≡◌, ℕ, suc, ◌<◌, Bool, true, false, cond, not, ◌&&◌, ◌||◌, eqb, ltb, List, [], ◌∷◌, sym, refl, ap, ◌∙◌, subst, inl, inr, arith}
-use Rattle.std.proofs.lemmas.Bool.{cases_eq, cases_Bool, cases_order, and_parts, both_ways, lt-ltb, ltb-true, eq-eqb, false≢true}
+use Rattle.std.proofs.Common.{◌≡◌, ℕ, suc, ◌<◌, Bool, true, false, cond, not, ◌&&◌, eqb, ltb, List, [], ◌∷◌, sym, refl, ap, ◌∙◌, subst, inl, inr, arith}
+use Rattle.std.proofs.lemmas.Bool.{cases_eq, cases_Bool, cases_order, and_parts, both_ways, ltb-true, false≢true}
 use Rattle.std.proofs.lemmas.Bool.Decides.{nat_tests}
-use Rattle.search.specs.Words.{none, without, any, has, distinct, Once}
+use Rattle.search.specs.Words.{none, without, any, has, distinct}
 use Rattle.search.specs.Orders.{ready, next, places, order, forward}
 use Rattle.search.specs.Walks.{edge, leads, closed}
 use Rattle.search.specs.Laws.{KeepsEdges, Excludes, Unique}

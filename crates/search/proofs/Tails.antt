@@ -1,13 +1,12 @@
 -- The sets of tails, one changed at a time, and the tails that a graph has.
-use Rattle.std.proofs.Common.{◌≡◌, ℕ, ◌+◌, ◌<◌, ◌≤◌, Bool, true, false, cond, not, ◌&&◌, ◌||◌, eqb, ltb, List, length, get_or, set, replicate, is_some, Some, None, Option, sym, refl, ap, ◌∙◌, inl, inr, arith, MatchOption}
+use Rattle.std.proofs.Common.{◌≡◌, ℕ, ◌+◌, ◌<◌, ◌≤◌, Bool, true, false, cond, not, ◌&&◌, ◌||◌, eqb, ltb, List, length, set, replicate, is_some, Some, None, Option, sym, ap, ◌∙◌, inl, inr, arith, MatchOption}
 use Rattle.std.proofs.lemmas.List.{get_or-set_same, get_or-set_other, get_or_past, get_or-replicate, length-replicate}
-use Rattle.std.proofs.lemmas.Bool.{cases_eq, cases_lt, cases_Bool, eq-eqb, ne_eqb, both_ways}
+use Rattle.std.proofs.lemmas.Bool.{cases_eq, cases_lt, cases_Bool, both_ways}
 use Rattle.std.proofs.lemmas.Bool.Decides.{nat_tests}
 use Rattle.marks.specs.declared.Marks.{Marks}
 use Rattle.marks.specs.Members.{marked, unmarked, Least}
 use Rattle.marks.proofs.Words.{marked_below, unmarked_none}
 use Rattle.graph.specs.Edges.{WellFormed, joined}
-use Rattle.search.specs.Words.{none}
 use Rattle.search.specs.Tails.{tail, empty, tailless}
 use Rattle.search.proofs.Sets.{none_from, some_from}
 

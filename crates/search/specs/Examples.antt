@@ -1,5 +1,5 @@
 -- Small graphs with their orders and closed walks, and lists that are neither.
-use Rattle.std.specs.Prelude.{◌≡◌, ℕ, Bool, true, false, ◌&&◌, ◌||◌, List, [], ◌∷◌, ◌==◌}
+use Rattle.std.specs.Prelude.{◌≡◌, ℕ, Bool, true, false, ◌&&◌, ◌||◌, [], ◌∷◌, ◌==◌}
 use Rattle.search.specs.Orders.{order, forward}
 use Rattle.search.specs.Walks.{closed, closed_walk}
 

@@ -1,4 +1,6 @@
 // One search over every graph: it finds the order of the vertices, or else a closed walk.
+#![tactic(auto)]
+
 ghost use Rattle.std.specs.Prelude.{◌≡◌, ℕ, ◌+◌, ◌<◌, ◌≤◌, true, false, not, ◌&&◌, ◌||◌, length, take, drop, MatchOption, ◌==◌, nat_lt, slice_index};
 ghost use Rattle.graph.specs.Edges.{joined};
 ghost use Rattle.marks.specs.Members.{marked};

@@ -1,5 +1,7 @@
 // search_bench: searches graphs of 256 vertices many times over, and prints what was found and how often the graph was looked at.
 // It prints no times: measure the whole run.
+#![tactic(auto)]
+
 use graph::{Graph, Table};
 use search::{Found, find};
 use std::alloc::{AllocError, Global};

@@ -1,6 +1,6 @@
 // Small graphs in a table, each with what the search must find, graphs of all 256 vertices, a union, and a short report.
 use super::*;
-use graph::{Kind, Starts, Table};
+use graph::Table;
 use std::alloc::{AllocError, Global};
 use std::process::Abort;
 use std::test::Fail;

@@ -1,4 +1,6 @@
 // Laws from vertices to transactions. Each is the contract of a function that does nothing.
+#![tactic(auto)]
+
 ghost use Rattle.vertex_laws.specs.Laws.{TablesShowEdges, UnionsShowEdges, OrdersCarryOver, OrdersExcludeWalks, WalksCarryOver};
 
 // A table of the kinds in force shows the edges of the run, and together with what begins and ends those of real time too.

@@ -1,7 +1,6 @@
-use Rattle.std.proofs.Common.{◌≡◌, ℕ, ◌<◌, ◌&&◌, ◌||◌, eqb, ltb, List, length, set, sym, ap, ◌∙◌, subst, arith}
+use Rattle.std.proofs.Common.{◌≡◌, List, length, set, ap, ◌∙◌, arith}
 use Rattle.std.proofs.lemmas.List.{length-set}
 use Rattle.marks.specs.declared.Marks.{Marks}
-use Rattle.graph.specs.Edges.{joined}
 use Rattle.search.specs.Tails.{tail}
 use Rattle.search.proofs.Tails.{tail_more, tail_same, heads_more, heads_all}
 use Rattle.search.proofs.add_tail.Goals as goal

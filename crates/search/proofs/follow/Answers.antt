@@ -9,15 +9,15 @@ use Rattle.search.proofs.follow.Goals as goal
 pub loop-tail-init : goal.loop-tail-init
 loop-tail-init c = (following_none (tail c.args.tails.now) c.args.start c.args.path.now c.requires.begins.0 (omega arith), c.requires.begins.1)
 
-pub overflow-sub-at : goal.overflow-sub-at
-overflow-sub-at c = path_room (tail c.args.tails.now) c.loop-tail.invariant.0
+pub overflow_sub-at : goal.overflow_sub-at
+overflow_sub-at c = path_room (tail c.args.tails.now) c.loop-tail.invariant.0
 
 pub loop-tail-smaller : goal.loop-tail-smaller
 loop-tail-smaller c = omega (arith, path_room (tail c.args.tails.now) c.loop-tail.invariant.0)
 
 -- a vertex on the path has a tail
 pub unreachable-requires : goal.unreachable-requires
-unreachable-requires c = both_ways _ c.loop-tail.invariant.1 (empty_none _ c.in-default.ensures)
+unreachable-requires c = both_ways _ c.loop-tail.invariant.1 (empty_none _ c.in_default.ensures)
 
 pub returns-in-Some-position : goal.returns-in-Some-position
 returns-in-Some-position c =
@@ -34,6 +34,6 @@ returns-in-Some-position c =
 pub loop-tail-preserved : goal.loop-tail-preserved
 loop-tail-preserved c =
     let t = c.in-Some.ensures.0 in (
-      following_more (tail c.args.tails.now) c.loop-tail.invariant.0 c.in-Some.tail (marked_below _ c.in-Some.tail t) t c.in-default-position.ensures,
+      following_more (tail c.args.tails.now) c.loop-tail.invariant.0 c.in-Some.tail (marked_below _ c.in-Some.tail t) t c.in_default-position.ensures,
       c.requires.continues c.in-Some.tail c.loop-tail.vertex t,
     )

@@ -5,8 +5,8 @@ use Rattle.search.proofs.place_all.Goals as goal
 
 pub loop-vertex-init : goal.loop-vertex-init
 loop-vertex-init c =
-    placing_none c.args.size c.requires.few c.args.tails.now (marked c.first-unplaced.result) (marked c.without-tails-ready.result) c.args.found.now
-    c.requires.within (omega arith) c.first-unplaced.ensures c.without-tails-ready.ensures
+    placing_none c.args.size c.requires.few c.args.tails.now (marked c.first-unplaced.result) (marked c.without_tails-ready.result) c.args.found.now
+    c.requires.within (omega arith) c.first-unplaced.ensures c.without_tails-ready.ensures
 
 pub bounds-found-placed : goal.bounds-found-placed
 bounds-found-placed c = room c.requires.few c.loop-vertex.invariant c.in-Some.ensures

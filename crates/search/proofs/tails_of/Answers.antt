@@ -10,7 +10,7 @@ loop-vertex-init g c =
 pub loop-vertex-preserved : goal.loop-vertex-preserved
 loop-vertex-preserved g c =
     tails_more (g.G.Graph.well c.args.graph.now)
-    c.loop-vertex.tails c.add-tail.new.tails c.loop-vertex.vertex c.loop-vertex.invariant c.add-tail.ensures
+    c.loop-vertex.tails c.add_tail.new.tails c.loop-vertex.vertex c.loop-vertex.invariant c.add_tail.ensures
 
 pub returns : goal.returns
 returns g c =

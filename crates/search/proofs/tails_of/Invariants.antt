@@ -1,4 +1,4 @@
-use Rattle.std.proofs.Common.{◌≡◌, ℕ, ◌&&◌, ltb, length}
+use Rattle.std.proofs.Common.{◌≡◌, ℕ, ◌&&◌, ltb}
 use Rattle.graph.specs.Edges.{joined}
 use Rattle.search.specs.Tails.{tail}
 use Rattle.search.proofs.tails_of.Given as goal
