@@ -1,5 +1,5 @@
 -- The two rules by which versions are ordered, and that each keeps the law of version orders.
-use Rattle.std.specs.Prelude.{◌≡◌, ℕ}
+use Rattle.std.specs.Prelude.{ℕ}
 use Rattle.verdicts.specs.Versions.{by_write, by_commit}
 use Rattle.verdict_laws.specs.Laws.{Lawful}
 use Rattle.versions.specs.declared.order.Rule.{Rule}

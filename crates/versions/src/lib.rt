@@ -1,4 +1,6 @@
 // Version orders, and the next version of an item.
+#![tactic(auto)]
+
 mod order;
 mod successor;
 

@@ -1,11 +1,11 @@
-use Rattle.std.proofs.Common.{◌≡◌, ℕ, ◌+◌, ◌<◌, ◌≤◌, Bool, List, [], ◌∷◌, ◌++◌, length, get_or, take, Some, None, Option, sym, ◌∙◌, subst, arith}
+use Rattle.std.proofs.Common.{◌≡◌, ℕ, ◌<◌, ◌≤◌, Bool, List, [], ◌∷◌, ◌++◌, length, get_or, take, Option, sym, ◌∙◌, subst, arith}
 use Rattle.std.proofs.lemmas.List.{take_more, take_all}
 use Rattle.events.specs.declared.Event.{Event}
 use Rattle.verdicts.specs.Versions.{committed, rank_of, after}
 use Rattle.versions.specs.Successors.{Least}
 use Rattle.versions.proofs.Least.{least_none, least_skip, least_more, no_successor, successor}
 use Rattle.versions.proofs.successor.next_version.Goals as goal
-use Rattle.versions.proofs.successor.next_version.Goals.{then-comes-after, else-comes-after}
+use Rattle.versions.proofs.successor.next_version.Goals.{then-comes_after, else-comes_after}
 
 pub loop-transaction-init : goal.loop-transaction-init
 loop-transaction-init g c = λ es k.

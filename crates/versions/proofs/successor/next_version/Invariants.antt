@@ -1,4 +1,4 @@
-use Rattle.std.proofs.Common.{◌≡◌, List, take}
+use Rattle.std.proofs.Common.{List, take}
 use Rattle.events.specs.declared.Event.{Event}
 use Rattle.transactions.specs.Tracks.{Tracks}
 use Rattle.verdicts.specs.Versions.{rank_of, after}
