@@ -1,8 +1,8 @@
-use Rattle.std.proofs.Common.{◌≡◌, ℕ, ◌-◌, ◌<◌, ◌≤◌, true, get_or, vec_items, sym, ◌∙◌, subst, arith}
+use Rattle.std.proofs.Common.{◌≡◌, ℕ, ◌-◌, ◌≤◌, true, get_or, vec_items, sym, ◌∙◌, subst, arith}
 use Rattle.std.proofs.lemmas.List.{get_or_read_under}
 use Rattle.std.proofs.lemmas.Bool.{and_from, lt-ltb, cond-true}
 use Rattle.events.specs.Questions.{is_transaction}
-use Rattle.vertices.specs.Numbering.{place_of, stands_at}
+use Rattle.vertices.specs.Numbering.{place_of}
 use Rattle.vertices.proofs.Steps.{place_checked}
 use Rattle.vertices.proofs.numbering.Vertices.vertex.Goals as goal
 
