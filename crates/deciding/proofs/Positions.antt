@@ -1,11 +1,10 @@
 -- Positions of begins and commits, one vertex more, and as far as the vertices go.
-use Rattle.std.proofs.Common.{◌≡◌, ℕ, ◌+◌, ◌-◌, ◌<◌, ◌≤◌, min, ◌≢◌, List, length, get_or, take, set, sym, ap, ◌∙◌, subst, inl, inr, arith, length-take}
-use Rattle.std.proofs.lemmas.List.{get_or-set_same, get_or-set_other, get_or-take, length-set}
+use Rattle.std.proofs.Common.{◌≡◌, ℕ, ◌+◌, ◌<◌, ◌≤◌, List, length, get_or, take, set, sym, ap, ◌∙◌, inl, inr, arith, length-take}
+use Rattle.std.proofs.lemmas.List.{get_or-set_same, get_or-set_other, get_or-take}
 use Rattle.std.proofs.lemmas.Bool.{cases_eq}
 use Rattle.events.specs.declared.Event.{Event}
 use Rattle.events.specs.Runs.{begin_at, commit_at}
 use Rattle.verdicts.specs.Versions.{committed}
-use Rattle.graph.specs.Starts.{begun}
 use Rattle.vertex_laws.specs.Laws.{Spans}
 use Rattle.deciding.specs.Spans.{Spanned}
 

@@ -1,14 +1,13 @@
 -- Which finding of closed walks is the first, from one search after another.
-use Rattle.std.proofs.Common.{◌≡◌, ℕ, ◌<◌, ◌≤◌, Bool, true, false, ◌&&◌, List, [], ◌∷◌, length, take, sym, refl, ap, ◌∙◌, subst, arith}
+use Rattle.std.proofs.Common.{◌≡◌, ℕ, ◌≤◌, Bool, true, false, List, [], ◌∷◌, length, take, sym, refl, ap, ◌∙◌, subst, arith}
 use Rattle.std.proofs.lemmas.Bool.{false≢true, and_right, both_ways}
 use Rattle.events.specs.declared.Event.{Event}
 use Rattle.search.specs.declared.Found.{Found}
 use Rattle.search.specs.declared.Found.TheVariants.{Order, Walk}
 use Rattle.verdicts.specs.declared.Finding.{Finding}
 use Rattle.verdicts.specs.declared.Finding.TheVariants.{G1a, G1b, SiA, SiB, SiC, G0, G1c, G2, Rt}
-use Rattle.verdicts.specs.Names.{number}
 use Rattle.verdicts.specs.Versions.{committed}
-use Rattle.verdicts.specs.Edges.{joined, every_kind}
+use Rattle.verdicts.specs.Edges.{every_kind}
 use Rattle.verdicts.specs.Walks.{chained, closed}
 use Rattle.verdicts.specs.Verdicts.{walk_kinds, is_walk, is_order_of}
 use Rattle.vertex_laws.specs.Vertices.{named}

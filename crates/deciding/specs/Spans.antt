@@ -1,5 +1,5 @@
 -- Where the transactions of the vertices begin and commit.
-use Rattle.std.specs.Prelude.{◌≡◌, ℕ, ◌<◌, List, length, slice_index}
+use Rattle.std.specs.Prelude.{◌≡◌, ℕ, ◌<◌, List, slice_index}
 use Rattle.events.specs.declared.Event.{Event}
 use Rattle.events.specs.Runs.{begin_at, commit_at}
 use Rattle.verdicts.specs.Versions.{committed}

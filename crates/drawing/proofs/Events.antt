@@ -1,5 +1,5 @@
 -- Bytes that show what the events of a run draw, one event after the other.
-use Rattle.std.proofs.Common.{◌≡◌, ℕ, ◌+◌, ◌<◌, ◌≤◌, Bool, true, false, cond, not, ◌&&◌, ◌||◌, eqb, ltb, ◌⊎◌, List, [], ◌∷◌, ◌++◌, length, get_or, take, sym, refl, ap, ◌∙◌, subst, inl, inr, arith}
+use Rattle.std.proofs.Common.{◌≡◌, ℕ, ◌+◌, ◌<◌, ◌≤◌, Bool, true, false, ◌&&◌, ◌||◌, eqb, ltb, ◌⊎◌, List, [], ◌∷◌, ◌++◌, length, get_or, take, sym, refl, ap, ◌∙◌, subst, inl, inr, arith}
 use Rattle.std.proofs.lemmas.List.{take_more, take_all}
 use Rattle.std.proofs.lemmas.Bool.{cases_Bool, and_parts, and_right, cond_both, eqb-true, both_ways, false≢true}
 use Rattle.events.specs.declared.Event.{Event}
@@ -12,7 +12,7 @@ use Rattle.graph.specs.declared.Kind.{Kind}
 use Rattle.graph.specs.declared.Kind.TheVariants.{Ww, Wr, Rw, Start}
 use Rattle.graph.specs.Kinds.{bit_of}
 use Rattle.verdicts.specs.Versions.{committed, is_ordered, next}
-use Rattle.verdicts.specs.Edges.{above_pl1, at_pl3, apart, draws_ww, draws_wr, draws_rw, kind_sum, in_force}
+use Rattle.verdicts.specs.Edges.{above_pl1, at_pl3, apart, draws_wr, draws_rw, kind_sum, in_force}
 use Rattle.verdicts.specs.Tables.{byte, Grid, ShowsKinds}
 use Rattle.history.proofs.Places.{at_next}
 use Rattle.verdicts.proofs.Committed.{apart_parts}

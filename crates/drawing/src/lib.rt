@@ -1,5 +1,6 @@
 // The edges in force of a run, drawn into a lent table of bytes.
 #![tactic(auto)]
+
 mod edges;
 mod levels;
 mod run;

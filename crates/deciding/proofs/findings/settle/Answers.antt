@@ -1,7 +1,6 @@
-use Rattle.std.proofs.Common.{◌≡◌, ℕ, Bool, false, List, length, sym, refl, subst}
+use Rattle.std.proofs.Common.{ℕ, Bool, false, List, length, sym, refl, subst}
 use Rattle.events.specs.declared.Event.{Event}
 use Rattle.verdicts.specs.declared.Finding.TheVariants.{G0, G1c, G2, Rt}
-use Rattle.search.specs.declared.Found.TheVariants.{Order}
 use Rattle.verdicts.specs.Versions.{committed}
 use Rattle.verdicts.specs.Edges.{every_kind}
 use Rattle.verdicts.specs.Verdicts.{walk_kinds}

@@ -1,4 +1,4 @@
-use Rattle.std.proofs.Common.{◌≡◌, ℕ, ◌-◌, ◌≤◌, min, max, true, [], length, take, sym, ap, ◌∙◌, subst, arith}
+use Rattle.std.proofs.Common.{◌≡◌, ℕ, ◌-◌, ◌≤◌, min, max, true, [], length, take, subst, arith}
 use Rattle.std.proofs.lemmas.Bool.{eq-eqb}
 use Rattle.events.specs.Questions.{unfit_at}
 use Rattle.graph.specs.Edges.{joined, united, tabled}
@@ -28,7 +28,7 @@ returns c =
       searched = λ rank es k v fit kinds.
           let same : size ≡ length (committed es) = c.count-size.ensures.all (committed es) v in
           let spanned : Spanned es m begins ends = subst (λ (l : ℕ). Spanned es l begins ends) (omega arith) (c.write_spans.ensures es k v) in
-          let spans : Spans es (take m begins) (take m ends) = front_spans es m begins ends (omega arith) (omega (arith, v.few)) c.write_spans.array_long c.write_spans.array-long2 spanned in
+          let spans : Spans es (take m begins) (take m ends) = front_spans es m begins ends (omega arith) (omega (arith, v.few)) c.write_spans.array_long c.write_spans.array_long2 spanned in
           searched rank es true every_kind all on fit
           (unions_show_edges rank es bytes n (take m begins) (take m ends) (eq-eqb (unfit_at [] es) 0 fit) kinds (omega (arith, v.few)) (omega arith) spans) _ _ c.search_in.result c.search_in.ensures;
     }

@@ -1,4 +1,4 @@
-use Rattle.std.proofs.Common.{◌≡◌, ℕ, ◌≤◌, min, length, sym, subst, arith}
+use Rattle.std.proofs.Common.{◌≡◌, ℕ, ◌≤◌, min, length, subst, arith}
 use Rattle.graph.specs.Edges.{joined, filtered, tabled}
 use Rattle.verdicts.specs.Versions.{committed}
 use Rattle.vertex_laws.specs.Laws.{ShowsEdges}

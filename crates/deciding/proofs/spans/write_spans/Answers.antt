@@ -1,4 +1,4 @@
-use Rattle.std.proofs.Common.{◌≡◌, ℕ, ◌<◌, length, get_or, sym, ap, ◌∙◌, subst, arith, length-set, rules}
+use Rattle.std.proofs.Common.{◌≡◌, ℕ, get_or, ap, ◌∙◌, subst, arith, length-set, rules}
 use Rattle.verdicts.specs.Versions.{committed}
 use Rattle.events.specs.Runs.{begin_at, commit_at}
 use Rattle.deciding.specs.Spans.{Spanned}

@@ -9,7 +9,7 @@ use Rattle.drawing.specs.EdgeSets.{edge, draws}
 use Rattle.drawing.proofs.Shown.{shows_as, shows_none}
 use Rattle.drawing.proofs.Words.{rw_one, rw_none}
 use Rattle.drawing.proofs.edges.draw_rw.Goals as goal
-use Rattle.drawing.proofs.edges.draw_rw.Goals.{then-not-at-pl3-via-then-not-at-pl3, then-not-at-pl3-via-else-not-at-pl3+then-not-is-ordered}
+use Rattle.drawing.proofs.edges.draw_rw.Goals.{then-not-at_pl3-via-then-not-at_pl3, then-not-at_pl3-via-else-not-at_pl3+then-not-is_ordered}
 
 pub returns-then-not-at_pl3 : goal.returns-then-not-at_pl3
 returns-then-not-at_pl3 g c =

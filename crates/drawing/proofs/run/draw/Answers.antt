@@ -1,4 +1,4 @@
-use Rattle.std.proofs.Common.{◌≡◌, ◌<◌, ◌≤◌, length, take, refl, ◌∙◌, arith}
+use Rattle.std.proofs.Common.{◌<◌, ◌≤◌, length, take, refl, ◌∙◌, arith}
 use Rattle.drawing.specs.Drawable.{Drawable}
 use Rattle.drawing.specs.EdgeSets.{drawn_by}
 use Rattle.drawing.proofs.Events.{still_drawable, shows_cleared, shows_further, shows_kinds}

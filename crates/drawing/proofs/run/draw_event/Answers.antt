@@ -1,5 +1,5 @@
 use Rattle.std.proofs.Common.{◌≡◌, false, drop, sym, refl, ◌∙◌, subst, arith}
-use Rattle.events.specs.declared.Event.TheVariants.{Write, Read}
+use Rattle.events.specs.declared.Event.TheVariants.{Read}
 use Rattle.events.specs.Fields.{transaction_of}
 use Rattle.events.specs.Runs.{has_committed}
 use Rattle.graph.specs.declared.Kind.TheVariants.{Wr}
@@ -12,7 +12,7 @@ returns-then-not-has_committed g c =
     let rank = g.O.VersionOrder.ranks c.args.order.now in
     record {
       shows = λ es set d.
-          let off : has_committed es (transaction_of c.args.event) ≡ false = subst (λ t. has_committed es t ≡ false) c.transaction.ensures (sym (c.transaction-2.ensures.stage es d.tracks) ∙ sym c.is_committed.ensures ∙ c.if-not-has_committed.true) in
+          let off : has_committed es (transaction_of c.args.event) ≡ false = subst (λ t. has_committed es t ≡ false) c.transaction.ensures (sym (c.transaction-2.ensures.stage es d.tracks) ∙ sym c.has_committed.ensures ∙ c.if-not-has_committed.true) in
           shows_quiet rank es set c.args.bytes.now c.args.event (uncommitted_quiet rank es c.args.event off);
       later = refl {a = drop 65536 c.args.bytes.now};
     }
