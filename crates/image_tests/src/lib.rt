@@ -1,5 +1,6 @@
 // Tests of images built by hand, word for word, and of packing and unpacking.
 #![tactic(auto)]
+
 #[cfg(test)]
 mod images;
 

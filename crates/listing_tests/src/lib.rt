@@ -1,6 +1,7 @@
 // Tests of recording, listing and writing back, on known texts. They stand in a crate of their own, since a crate with tests is
 // proved twice.
 #![tactic(auto)]
+
 #[cfg(test)]
 mod texts;
 

@@ -1,6 +1,7 @@
 // pack: reads a listing from standard input and writes it as an image of 65,536 bytes; where the listing has a fault, only the
 // line that says so.
 #![tactic(auto)]
+
 use packing::pack;
 use relisting::summary;
 use std::io::{Read, Write};

@@ -1,5 +1,6 @@
 // relist: reads a listing from standard input, records it, writes the recording back, and says how that went.
 #![tactic(auto)]
+
 use relisting::{relist, summary};
 use std::io::{Read, Write};
 

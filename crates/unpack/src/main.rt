@@ -1,5 +1,6 @@
 // unpack: reads an image from standard input and writes its listing; where it is refused, only the line that says so.
 #![tactic(auto)]
+
 use packing::{refusal_line, unpack};
 use std::io::{Read, Write};
 
