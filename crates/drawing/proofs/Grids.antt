@@ -30,7 +30,7 @@ module _ (cs : List ℕ) (back : (a : ℕ) → a < length cs → first (eqb (get
     grid_more at_p at_q others here before after bytes h a b la lb = bytes a b la lb ∙ elim (cases_Bool (eqb a p && eqb b q)) [
       | inl on ↦ rw on (hit (and_parts (eqb a p) (eqb b q) on))
       | inr off ↦ rw off (h a b la lb ∙ elim (cases_Bool (inside a b)) [
-        | inl in· ↦ rw in· (others (get_or cs a 0) (get_or cs b 0) (miss off (and_parts (ltb a (length cs)) (ltb b (length cs)) in·)))
+        | inl both ↦ rw both (others (get_or cs a 0) (get_or cs b 0) (miss off (and_parts (ltb a (length cs)) (ltb b (length cs)) both)))
         | inr out ↦ rw out refl
       ])
     ]
@@ -41,8 +41,8 @@ module _ (cs : List ℕ) (back : (a : ℕ) → a < length cs → first (eqb (get
             let y = eqb-true b q d.1 in
             let tail = member_at cs t p at_p in
             let head = member_at cs u q at_q in
-            let in· = and_from (ltb p (length cs)) (ltb q (length cs)) (lt-ltb p (length cs) tail.0) (lt-ltb q (length cs) head.0) in
-            ap (λ n. bit_or n k) (h a b la lb) ∙ rw (x, y, in·, tail.1, head.1) here
+            let both = and_from (ltb p (length cs)) (ltb q (length cs)) (lt-ltb p (length cs) tail.0) (lt-ltb q (length cs) head.0) in
+            ap (λ n. bit_or n k) (h a b la lb) ∙ rw (x, y, both, tail.1, head.1) here
 
         miss : (eqb a p && eqb b q) ≡ false → (ltb a (length cs) ≡ true) × (ltb b (length cs) ≡ true) → edge t u (get_or cs a 0) (get_or cs b 0) ≡ false
         miss off d = elim (cases_Bool (edge t u (get_or cs a 0) (get_or cs b 0))) [

@@ -13,7 +13,7 @@ use Rattle.drawing.specs.EdgeSets.{edge, draws}
 
 -- a test that is never passed
 never : (b : Bool) → (b ≡ true → ⊥) → b ≡ false
-never b no· = elim (cases_Bool b) [ inl k ↦ absurd (no· k) | inr k ↦ k ]
+never b no' = elim (cases_Bool b) [ inl k ↦ absurd (no' k) | inr k ↦ k ]
 
 -- a word that holds of t and u, and of no other two
 only : (word : ℕ → ℕ → Bool) (t u : ℕ) → word t u ≡ true → ((i j : ℕ) → word i j ≡ true → (i ≡ t) × (j ≡ u)) → (i j : ℕ) → word i j ≡ edge t u i j

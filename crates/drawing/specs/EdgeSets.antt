@@ -14,7 +14,7 @@ EdgeSet = Kind → ℕ → ℕ → Bool
 
 -- the sum of four kinds, each where it is there
 abbrev pub sum : Bool → Bool → Bool → Bool → ℕ
-sum ww wr rw· start = cond ww (bit_of Ww) 0 + (cond wr (bit_of Wr) 0 + (cond rw· (bit_of Rw) 0 + cond start (bit_of Start) 0))
+sum ww wr rw' start = cond ww (bit_of Ww) 0 + (cond wr (bit_of Wr) 0 + (cond rw' (bit_of Rw) 0 + cond start (bit_of Start) 0))
 
 -- the sum of the kinds that pass a test
 abbrev pub sum_of : (Kind → Bool) → ℕ

@@ -3,7 +3,7 @@ use Rattle.std.proofs.Common.{◌≡◌, ℕ, ◌<◌, Bool, true, false, cond, 
 use Rattle.std.proofs.lemmas.Bool.{both_ways, and_parts, and_from, or_cases, or_left, or_right, not-true, not_from_false, eqb-true, eq-eqb, ne_eqb, lt-ltb, cases_eq, cases_Bool, cond_both, false≢true}
 use Rattle.events.specs.Lists.{count, any, every, first, find}
 use Rattle.verdicts.specs.Orders.{has, lists_each, forwards, topological, ready, goes_next, completes, is_order}
-use Rattle.verdicts.proofs.Exclusion.{every-at}
+use Rattle.verdicts.proofs.Exclusion.{every_at}
 use Rattle.verdict_laws.proofs.Lists.{first_left, first_at, count_at}
 use Rattle.verdict_laws.proofs.Strict.{has_itself, has_append, has_count, has_not_count, has_split, every_from}
 
@@ -41,7 +41,7 @@ module _ (joined : ℕ → ℕ → Bool) (vertices : List ℕ) where
     where
       go : (b c : Bool) → has done t ≡ b → has vertices t ≡ c → ◌≡◌ {A = ℕ} 0 (cond b 0 (cond c 1 0))
       go true c k l = refl
-      go false true k l = absurd (both_ways (has done t) k (every-at (has done) vertices t h l))
+      go false true k l = absurd (both_ways (has done t) k (every_at (has done) vertices t h l))
       go false false k l = refl
   listed_once done (v ∷ vs) h t =
       let s = step done v vs h in
@@ -60,7 +60,7 @@ module _ (joined : ℕ → ℕ → Bool) (vertices : List ℕ) where
   tail_placed : (ls done : List ℕ) (i j : ℕ) (rs : List ℕ) → completes joined vertices done (ls ++ j ∷ rs) ≡ true
       → joined i j ≡ true → has vertices i ≡ true → has (done ++ ls) i ≡ true
   tail_placed [] done i j rs h e v =
-      let k = every-at (λ t. not (joined t j) || has done t) vertices i (step done j rs h).tails v in
+      let k = every_at (λ t. not (joined t j) || has done t) vertices i (step done j rs h).tails v in
       subst (λ l. has l i ≡ true) (sym (append-nil done))
       (elim (or_cases (not (joined i j)) (has done i) k) [ inl n ↦ absurd (both_ways (joined i j) (not-true (joined i j) n) e) | inr m ↦ m ])
   tail_placed (l ∷ ls) done i j rs h e v =
@@ -100,7 +100,7 @@ module _ (joined : ℕ → ℕ → Bool) (vertices : List ℕ) where
 
   -- where all are placed none goes next
   none_left : (done : List ℕ) (v : ℕ) (vs : List ℕ) → every (has done) vertices ≡ true → completes joined vertices done (v ∷ vs) ≡ true → ⊥
-  none_left done v vs h k = let s = step done v vs k in both_ways (has done v) s.new (every-at (has done) vertices v h s.vertex)
+  none_left done v vs h k = let s = step done v vs k in both_ways (has done v) s.new (every_at (has done) vertices v h s.vertex)
 
   completes_one : (done us vs : List ℕ) → completes joined vertices done us ≡ true → completes joined vertices done vs ≡ true → us ≡ vs
   completes_one done [] [] h k = refl

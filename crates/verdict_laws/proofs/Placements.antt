@@ -14,7 +14,7 @@ use Rattle.graph.specs.declared.Kind.{Kind}
 use Rattle.graph.specs.declared.Kind.TheVariants.{Ww, Wr, Rw, Start}
 use Rattle.verdicts.specs.Orders.{has, lists_each, forwards}
 use Rattle.verdicts.proofs.Committed.{is_committed, joined_ends}
-use Rattle.verdicts.proofs.Exclusion.{every-at, tail_first}
+use Rattle.verdicts.proofs.Exclusion.{every_at, tail_first}
 use Rattle.verdict_laws.specs.Laws.{Lawful, strictly, along_edges}
 use Rattle.verdict_laws.proofs.Lists.{any_from, any_weaker, any_from_count, count-append, first_at, first_right, first_from_count, count_at}
 use Rattle.verdict_laws.proofs.Strict.{has_itself, has_kept, has_count, has_not_count, strictly_from, strictly_kept, strictly_same, strictly_steps}
@@ -73,9 +73,9 @@ module _ (rank : ℕ → ℕ → ℕ) (es : List Event) (real_time : Bool) (orde
   -- the order has each committed transaction once, and no other
   pub counts : (t : ℕ) → count (eqb t) order ≡ cond (has_committed es t) 1 0
   counts t = elim (cases_Bool (has_committed es t)) [
-    | inl c ↦ rw c (eqb-true (count (eqb t) order) 1 (every-at (λ v. eqb (count (eqb v) order) 1) (committed es) t each.0 (is_committed es t ∙ c)))
+    | inl c ↦ rw c (eqb-true (count (eqb t) order) 1 (every_at (λ v. eqb (count (eqb v) order) 1) (committed es) t each.0 (is_committed es t ∙ c)))
     | inr c ↦ rw c (has_not_count order t (elim (cases_Bool (has order t)) [
-      | inl h ↦ absurd (both_ways (has_committed es t) c (sym (is_committed es t) ∙ every-at (has (committed es)) order t each.1 h))
+      | inl h ↦ absurd (both_ways (has_committed es t) c (sym (is_committed es t) ∙ every_at (has (committed es)) order t each.1 h))
       | inr h ↦ h
     ]))
   ]

@@ -4,7 +4,7 @@ use Rattle.std.proofs.lemmas.Bool.{false≢true, or_cases, or_left, or_right, an
 use Rattle.events.specs.Lists.{count, every}
 use Rattle.verdicts.specs.Versions.{final, insert, rising}
 use Rattle.verdicts.specs.Orders.{has}
-use Rattle.verdicts.proofs.Exclusion.{every-at}
+use Rattle.verdicts.proofs.Exclusion.{every_at}
 use Rattle.verdict_laws.specs.Laws.{strictly}
 
 -- membership
@@ -65,7 +65,7 @@ module _ (key : ℕ → ℕ) where
 
   -- the first element ranks below the others
   pub first_below : (u : ℕ) (us : List ℕ) → strictly key (u ∷ us) ≡ true → (v : ℕ) → has us v ≡ true → key u < key v
-  first_below u us h v k = ltb-true (key u) (key v) (every-at (below u) us v (strictly_parts u us h).0 k)
+  first_below u us h v k = ltb-true (key u) (key v) (every_at (below u) us v (strictly_parts u us h).0 k)
 
   pub strictly_back : (xs ys : List ℕ) → strictly key (xs ++ ys) ≡ true → strictly key ys ≡ true
   strictly_back [] ys h = h

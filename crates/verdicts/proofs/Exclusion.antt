@@ -6,11 +6,11 @@ use Rattle.verdicts.specs.Walks.{chained, closed}
 use Rattle.verdicts.specs.Orders.{has, forwards}
 
 -- what each element passes, an element passes
-pub every-at : (p : ℕ → Bool) (xs : List ℕ) (x : ℕ) → every p xs ≡ true → has xs x ≡ true → p x ≡ true
-every-at p [] x h k = absurd (false≢true k)
-every-at p (y ∷ xs) x h k =
+pub every_at : (p : ℕ → Bool) (xs : List ℕ) (x : ℕ) → every p xs ≡ true → has xs x ≡ true → p x ≡ true
+every_at p [] x h k = absurd (false≢true k)
+every_at p (y ∷ xs) x h k =
     let d = and_parts (p y) (every p xs) h in
-    elim (or_cases (eqb x y) (has xs x) k) [ inl e ↦ rw (eqb-true x y e) d.0 | inr e ↦ every-at p xs x d.1 e ]
+    elim (or_cases (eqb x y) (has xs x) k) [ inl e ↦ rw (eqb-true x y e) d.0 | inr e ↦ every_at p xs x d.1 e ]
 
 -- where places rise along edges no walk comes back
 module _ (joined : ℕ → ℕ → Bool) (place : ℕ → ℕ) (rises : (i j : ℕ) → joined i j ≡ true → place i < place j) where
@@ -31,8 +31,8 @@ module _ (joined : ℕ → ℕ → Bool) (vertices order : List ℕ)
   pub tail_first : (i j : ℕ) → joined i j ≡ true → first (eqb i) order < first (eqb j) order
   tail_first i j h =
       let before : ℕ → ℕ → Bool = λ i j. not (joined i j) || ltb (first (eqb i) order) (first (eqb j) order) in
-      let row = every-at (λ i. every (before i) vertices) vertices i ahead (ends i j h).0 in
-      elim (or_cases (not (joined i j)) (ltb (first (eqb i) order) (first (eqb j) order)) (every-at (before i) vertices j row (ends i j h).1)) [
+      let row = every_at (λ i. every (before i) vertices) vertices i ahead (ends i j h).0 in
+      elim (or_cases (not (joined i j)) (ltb (first (eqb i) order) (first (eqb j) order)) (every_at (before i) vertices j row (ends i j h).1)) [
         | inl n ↦ absurd (both_ways (joined i j) (not-true (joined i j) n) h)
         | inr l ↦ ltb-true (first (eqb i) order) (first (eqb j) order) l
       ]

@@ -19,9 +19,9 @@ module _ {X : Type 0} (p : X → Bool) where
   ]
 
 -- what stands where t stands first is t
-pub get_d_first : (t : ℕ) (cs : List ℕ) → 0 < first (eqb t) cs → get_or cs (first (eqb t) cs - 1) 0 ≡ t
-get_d_first t [] h = absurd (omega arith)
-get_d_first t (c ∷ cs) h = go (eqb t c) refl (first (eqb t) cs) refl (get_d_first t cs) h
+pub get_or_first : (t : ℕ) (cs : List ℕ) → 0 < first (eqb t) cs → get_or cs (first (eqb t) cs - 1) 0 ≡ t
+get_or_first t [] h = absurd (omega arith)
+get_or_first t (c ∷ cs) h = go (eqb t c) refl (first (eqb t) cs) refl (get_or_first t cs) h
   where
     go : (b : Bool) → eqb t c ≡ b → (n : ℕ) → first (eqb t) cs ≡ n → (0 < first (eqb t) cs → get_or cs (first (eqb t) cs - 1) 0 ≡ t)
         → 0 < cond b 1 (onward n) → get_or (c ∷ cs) (cond b 1 (onward n) - 1) 0 ≡ t
@@ -32,19 +32,19 @@ get_d_first t (c ∷ cs) h = go (eqb t c) refl (first (eqb t) cs) refl (get_d_fi
         rw i (ih (omega arith))
 
 -- what stands in a list is counted there
-pub count_get_d : (cs : List ℕ) (a : ℕ) → a < length cs → 0 < count (eqb (get_or cs a 0)) cs
-count_get_d [] a h = absurd (omega arith)
-count_get_d (c ∷ cs) zero h = let k = eq-eqb c c refl in rw k (omega arith)
-count_get_d (c ∷ cs) (suc a) h = let ih = count_get_d cs a (omega arith) in omega arith
+pub count_get_or : (cs : List ℕ) (a : ℕ) → a < length cs → 0 < count (eqb (get_or cs a 0)) cs
+count_get_or [] a h = absurd (omega arith)
+count_get_or (c ∷ cs) zero h = let k = eq-eqb c c refl in rw k (omega arith)
+count_get_or (c ∷ cs) (suc a) h = let ih = count_get_or cs a (omega arith) in omega arith
 
 -- where no number stands twice, what stands at a place stands there first
-pub first_get_d : (cs : List ℕ) → ((t : ℕ) → count (eqb t) cs ≤ 1) → (a : ℕ) → a < length cs → first (eqb (get_or cs a 0)) cs ≡ a + 1
-first_get_d [] once a h = absurd (omega arith)
-first_get_d (c ∷ cs) once zero h = let k = eq-eqb c c refl in rw k refl
-first_get_d (c ∷ cs) once (suc a) h =
+pub first_get_or : (cs : List ℕ) → ((t : ℕ) → count (eqb t) cs ≤ 1) → (a : ℕ) → a < length cs → first (eqb (get_or cs a 0)) cs ≡ a + 1
+first_get_or [] once a h = absurd (omega arith)
+first_get_or (c ∷ cs) once zero h = let k = eq-eqb c c refl in rw k refl
+first_get_or (c ∷ cs) once (suc a) h =
     let t : ℕ = get_or cs a 0 in
-    let ih = first_get_d cs (λ u. omega (arith, once u)) a (omega arith) in
-    let some = count_get_d cs a (omega arith) in
+    let ih = first_get_or cs (λ u. omega (arith, once u)) a (omega arith) in
+    let some = count_get_or cs a (omega arith) in
     let few = once t in
     let k : eqb t c ≡ false = grind (arith, nat_tests) in
     rw (k, ih) (grind (arith, onward_tells (a + 1)))

@@ -4,10 +4,10 @@ use Rattle.std.proofs.lemmas.Bool.{ltb-true, lt-ltb}
 use Rattle.events.specs.Lists.{first}
 use Rattle.events.specs.Questions.{is_transaction}
 use Rattle.verdicts.specs.Orders.{has}
-use Rattle.verdicts.proofs.Exclusion.{every-at}
+use Rattle.verdicts.proofs.Exclusion.{every_at}
 use Rattle.vertices.specs.declared.numbering.Vertices.{Vertices}
 use Rattle.vertices.specs.Numbering.{Numbers}
-use Rattle.vertices.proofs.Firsts.{any_first, first_within, get_d_first, first_get_d}
+use Rattle.vertices.proofs.Firsts.{any_first, first_within, get_or_first, first_get_or}
 
 module _ (cs : List ℕ) (t : ℕ) where
   -- t is in the list exactly where it has a place there
@@ -19,26 +19,26 @@ module _ (cs : List ℕ) (t : ℕ) where
 
   -- and it stands at that place
   pub member_first : has cs t ≡ true → get_or cs (first (eqb t) cs - 1) 0 ≡ t
-  member_first h = get_d_first t cs (first_has h)
+  member_first h = get_or_first t cs (first_has h)
 
   -- vertex a is t, where t has the place a + 1
   pub member_at : (a : ℕ) → a + 1 ≡ first (eqb t) cs → (a < length cs) × (get_or cs a 0 ≡ t)
   member_at a e =
       let w = first_within (eqb t) cs in
       let i : a ≡ first (eqb t) cs - 1 = omega arith in
-      (omega arith, ap (λ n. get_or cs n 0) i ∙ get_d_first t cs (omega arith))
+      (omega arith, ap (λ n. get_or cs n 0) i ∙ get_or_first t cs (omega arith))
 
 module _ (v : Vertices) (cs : List ℕ) (k : Numbers v cs) (a : ℕ) (h : a < length cs) where
   -- the transaction that is vertex a has the place a + 1
   pub place_of : first (eqb (get_or cs a 0)) cs ≡ a + 1
-  place_of = first_get_d cs k.once a h
+  place_of = first_get_or cs k.once a h
 
   pub has_member : has cs (get_or cs a 0) ≡ true
   has_member = has_first cs (get_or cs a 0) (omega (arith, place_of))
 
   pub member_numbered : is_transaction (get_or cs a 0) ≡ true
-  member_numbered = every-at is_transaction cs (get_or cs a 0) k.numbered has_member
+  member_numbered = every_at is_transaction cs (get_or cs a 0) k.numbered has_member
 
   -- two vertices are two transactions
   pub same_vertex : (b : ℕ) → b < length cs → get_or cs a 0 ≡ get_or cs b 0 → a ≡ b
-  same_vertex b l e = let i = ap (λ t. first (eqb t) cs) e ∙ first_get_d cs k.once b l in omega (arith, place_of)
+  same_vertex b l e = let i = ap (λ t. first (eqb t) cs) e ∙ first_get_or cs k.once b l in omega (arith, place_of)

@@ -13,12 +13,12 @@ use Rattle.vertices.specs.Numbering.{member_of, stands_at, Numbers, place_of}
 use Rattle.vertices.proofs.Firsts.{any_first}
 use Rattle.vertices.proofs.Few.{few_numbers}
 
-pub get_d_zeros : (n k : ℕ) → ◌≡◌ {A = ℕ} (get_or (replicate n 0) k 0) 0
-get_d_zeros n k = elim (cases_lt k n) [ inl h ↦ get_or-replicate n k 0 0 h | inr h ↦ get_or_past (replicate n 0) k 0 (rw length-replicate h) ]
+pub get_or_zeros : (n k : ℕ) → ◌≡◌ {A = ℕ} (get_or (replicate n 0) k 0) 0
+get_or_zeros n k = elim (cases_lt k n) [ inl h ↦ get_or-replicate n k 0 0 h | inr h ↦ get_or_past (replicate n 0) k 0 (rw length-replicate h) ]
 
 pub zeros_made : {Z E : Type 0} (r : Result (Vec ℕ Z) E) (n : ℕ) (Q : Type 0) → Q → IfOk r (λ v. vec_len v ≡ n) → IfOk r (λ v. Q → vec_items v ≡ replicate n 0)
     → IfOk r (λ v. (vec_len v ≡ n) × ((k : ℕ) → get_or (vec_items v) k 0 ≡ 0))
-zeros_made (Ok v) n Q q h e = (h, λ k. rw (e q) (get_d_zeros n k))
+zeros_made (Ok v) n Q q h e = (h, λ k. rw (e q) (get_or_zeros n k))
 zeros_made (Err y) n Q q h e = tt
 
 -- one less than a place, where it is not 0, as code has it

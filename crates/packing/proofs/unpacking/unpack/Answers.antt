@@ -2,6 +2,7 @@ use Rattle.std.proofs.Common.{◌≡◌, ◌≤◌, [], drop, vec_items, ap, ◌
 use Rattle.events.specs.Questions.{unfit_at}
 use Rattle.lines.specs.Lines.{listing}
 use Rattle.image.specs.Chains.{events_of}
+use Rattle.image.specs.Openings.{Refuses}
 use Rattle.packing.proofs.Lengths.{fit_short, cut_down, image_few, too_short}
 use Rattle.packing.proofs.unpacking.unpack.Goals as goal
 
@@ -23,3 +24,6 @@ unreachable-requires c =
     let es = events_of (vec_items image.bytes) in
     let w = too_short es c.deref_mut.result.now c.write_listing.new.text c.in-Err-write_listing.fault c.in-TooShort.is c.in-Err-write_listing.ensures in
     omega (arith, w.1, fit_short es w.0 (image_few (vec_items image.bytes) image.whole image.chained), c.deref_mut.ensures.len, c.in_ok-text.ensures.len)
+
+pub returns-in-Refused : goal.returns-in-Refused
+returns-in-Refused c = subst (λ why. Refuses why c.args.bytes.items) c.in-Refused.is c.in-Err.ensures.1
