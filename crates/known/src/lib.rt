@@ -17,9 +17,8 @@ impl<'a, T: Lists<E>, E> Lists<E> for &'a T {
     ghost items = { λ lent. T.Lists.items lent.now };
 }
 
-// The list that a value stood for when it was looked at. A struct over a type parameter cannot name the parameter's list in
-// a ghost field of its own: it holds such a token beside the value, and states its invariant of the token's list. The token
-// takes no memory.
+// The list that a value stood for when it was looked at. A struct over a type parameter holds such a token beside
+// the value, and states its invariant of the token's list. The token takes no memory.
 pub struct Known<T: Lists<E>, E> {
     marker: PhantomData<(T, E)>,
     ghost of: { T },
