@@ -6,10 +6,10 @@ use Rattle.verdicts.specs.Edges.{apart}
 use Rattle.drawing.specs.EdgeSets.{edge, draws}
 use Rattle.drawing.proofs.Shown.{shows_as, shows_none}
 use Rattle.drawing.proofs.Words.{wr_one, wr_none}
-use Rattle.drawing.proofs.edges.draw_wr.Goals as goal
+use Rattle.drawing.proofs.edges.Drawing.draw_wr.Goals as goal
 
 pub returns-then-above_pl1 : goal.returns-then-above_pl1
-returns-then-above_pl1 c =
+returns-then-above_pl1 g c =
     let t = c.args.reader in
     let w = c.args.writer in
     record {
@@ -21,7 +21,7 @@ returns-then-above_pl1 c =
     }
 
 pub returns-else-above_pl1 : goal.returns-else-above_pl1
-returns-else-above_pl1 c =
+returns-else-above_pl1 g c =
     let t = c.args.reader in
     let w = c.args.writer in
     record {
