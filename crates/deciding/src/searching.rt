@@ -15,7 +15,7 @@ ghost use Rattle.vertex_laws.specs.Vertices.{named};
 ghost use Rattle.vertex_laws.specs.Laws.{ShowsEdges};
 ghost use Rattle.deciding.specs.Searches.{Searched, found_count};
 
-use crate::spans::write_spans;
+use crate::spans::spans_of;
 use graph::{Filter, Graph, Starts, Table, Union};
 use search::Found;
 use transactions::TransactionTable;
@@ -58,15 +58,14 @@ pub(crate) fn search_all(
     ensures few { found_count result ≤ 256 }
     ensures searched { (rank : ℕ → ℕ → ℕ) (es : List AnEvent) → Tracks table.now es → Numbers vertices.now (committed es) → unfit_at [] es ≡ 0 → ShowsKinds rank es bytes.now → Searched rank es true every_kind found.new result }
 {
-    let mut begins = [0; 256];
-    let mut ends = [0; 256];
-    write_spans(table, vertices, &mut begins, &mut ends);
-    let size = vertices.count() as usize;
+    let spans = spans_of(table, vertices);
     let graph = Union {
-        first: Table { bytes, size },
+        first: Table {
+            bytes,
+            size: vertices.count() as usize,
+        },
         second: Starts {
-            begins: &begins[0..size],
-            ends: &ends[0..size],
+            spans: spans.as_slice(),
         },
     };
     search_in(&graph, found)

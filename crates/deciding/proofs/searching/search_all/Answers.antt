@@ -1,34 +1,33 @@
-use Rattle.std.proofs.Common.{◌≡◌, ℕ, ◌-◌, ◌≤◌, min, max, true, [], length, take, subst, arith}
+use Rattle.std.proofs.Common.{◌≡◌, ◌≤◌, min, max, true, List, [], length, sym, subst, arith}
 use Rattle.std.proofs.lemmas.Bool.{eq-eqb}
 use Rattle.events.specs.Questions.{unfit_at}
 use Rattle.graph.specs.Edges.{joined, united, tabled}
-use Rattle.graph.specs.Starts.{begun, starts}
+use Rattle.graph.specs.declared.starts.Span.{Span}
+use Rattle.graph.specs.Starts.{begins_of, ends_of, begun, starts}
 use Rattle.verdicts.specs.Versions.{committed}
 use Rattle.verdicts.specs.Edges.{every_kind}
 use Rattle.vertex_laws.specs.Laws.{Spans}
 use Rattle.vertex_laws.proofs.Graphs.{unions_show_edges}
-use Rattle.deciding.specs.Spans.{Spanned}
 use Rattle.deciding.proofs.Found.{searched, found_few}
-use Rattle.deciding.proofs.Positions.{front_spans}
 use Rattle.deciding.proofs.searching.search_all.Goals as goal
 
 pub returns : goal.returns
 returns c =
     let bytes = c.args.bytes.now in
-    let size = c.count-size.result in
+    let size = c.count.result in
     let n = min size 256 in
-    let m = size - 0 in
-    let begins = c.write_spans.new.begins in
-    let ends = c.write_spans.new.ends in
-    let all = max n (begun (take m begins) (take m ends)) in
-    let on = joined (united (tabled n bytes) (starts (take m begins) (take m ends))) in
+    let begins = begins_of c.as_slice.result.now in
+    let ends = ends_of c.as_slice.result.now in
+    let all = max n (begun begins ends) in
+    let on = joined (united (tabled n bytes) (starts begins ends)) in
     let few : all ≤ 256 = omega arith in
     record {
       few = found_few all on _ _ c.search_in.result few c.search_in.ensures;
       searched = λ rank es k v fit kinds.
-          let same : size ≡ length (committed es) = c.count-size.ensures.all (committed es) v in
-          let spanned : Spanned es m begins ends = subst (λ (l : ℕ). Spanned es l begins ends) (omega arith) (c.write_spans.ensures es k v) in
-          let spans : Spans es (take m begins) (take m ends) = front_spans es m begins ends (omega arith) (omega (arith, v.few)) c.write_spans.array_long c.write_spans.array_long2 spanned in
+          let same : size ≡ length (committed es) = c.count.ensures.all (committed es) v in
+          let spans : Spans es begins ends =
+          subst (λ (xs : List Span). Spans es (begins_of xs) (ends_of xs)) (sym c.as_slice.ensures.value) (c.spans_of-spans.ensures es k v)
+          in
           searched rank es true every_kind all on fit
-          (unions_show_edges rank es bytes n (take m begins) (take m ends) (eq-eqb (unfit_at [] es) 0 fit) kinds (omega (arith, v.few)) (omega arith) spans) _ _ c.search_in.result c.search_in.ensures;
+          (unions_show_edges rank es bytes n begins ends (eq-eqb (unfit_at [] es) 0 fit) kinds (omega (arith, v.few)) (omega arith) spans) _ _ c.search_in.result c.search_in.ensures;
     }

@@ -3,10 +3,9 @@ use Rattle.events.specs.declared.Event.{Event}
 use Rattle.transactions.specs.Tracks.{Tracks}
 use Rattle.verdicts.specs.Versions.{committed}
 use Rattle.vertices.specs.Numbering.{Numbers}
-use Rattle.deciding.specs.Spans.{Spanned}
-use Rattle.deciding.proofs.spans.write_spans.Given as goal
+use Rattle.deciding.proofs.Positions.{Spanned}
+use Rattle.deciding.proofs.spans.spans_of.Given as goal
 
 abbrev pub invariant-loop-vertex : goal.invariant-loop-vertex
 invariant-loop-vertex l =
-    (length l.begins ≡ 256) × (length l.ends ≡ 256)
-    × ((es : List Event) → Tracks l.table es → Numbers l.vertices (committed es) → Spanned es l.vertex l.begins l.ends)
+    (length l.spans.items ≡ l.vertex) × ((es : List Event) → Tracks l.table es → Numbers l.vertices (committed es) → Spanned es l.spans.items)
