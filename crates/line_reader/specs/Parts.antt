@@ -1,5 +1,5 @@
 -- What it means that a part of a line was read, or that the reading stopped there. A part is a grammar that waits for what follows it.
-use Rattle.std.specs.Prelude.{◌≡◌, ℕ, suc, ◌+◌, ◌≤◌, Bool, true, cond, ◌||◌, ◌⊎◌, List, [], ◌∷◌, ◌++◌, length, take, Ok, Err, Result, ◌==◌}
+use Rattle.std.specs.Prelude.{◌≡◌, ℕ, ◌+◌, ◌≤◌, Bool, true, ◌||◌, ◌⊎◌, List, ◌∷◌, ◌++◌, length, take, Ok, Err, Result, ◌==◌}
 use Rattle.std.specs.Borrow.{Bor}
 use Rattle.events.specs.declared.Level.{Level}
 use Rattle.lines.specs.declared.FormFault.{FormFault}
@@ -32,12 +32,6 @@ Reads {V} n mark part value c text (Err fault) = (k : V → Grammar) → parse (
 abbrev pub Passes : ℕ → ℕ → List ℕ → Result (Bor (List ℕ)) FormFault → Type 0
 Passes mark c text (Ok rest) = (text ≡ mark ∷ rest.now) × ((k : Grammar) → parse (byte mark k) c text ≡ parse k (c + 1) rest.now)
 Passes mark c text (Err fault) = (k : Grammar) → parse (byte mark k) c text ≡ Err fault
-
--- how many bytes the word and the text have in common, from their first on
-abbrev pub agree : List ℕ → List ℕ → ℕ
-agree [] s = 0
-agree (w ∷ ws) [] = 0
-agree (w ∷ ws) (x ∷ s) = cond (x == w) (suc (agree ws s)) 0
 
 -- the first n bytes are a level's word, or those before the byte at which no level's word goes on
 abbrev pub LevelBytes : List ℕ → ℕ → Type 0

@@ -1,11 +1,12 @@
 // Fields of a line: each borrows its part of the text and knows the column of its first byte. The readers of one field
 // answer it with the text after it, or the fault at the first byte that continues none.
-ghost use Rattle.std.specs.Prelude.{◌≡◌, ℕ, ◌+◌, ◌<◌, ◌≤◌, true, false, List, ◌∷◌, ◌++◌, length, Ok, Err, MatchOption, ◌≢◌};
+ghost use Rattle.std.specs.Prelude.{◌≡◌, ℕ, ◌+◌, ◌<◌, ◌≤◌, true, false, List, ◌∷◌, ◌++◌, length, Ok, Err, MatchOption, nat_eq, ◌≢◌};
+ghost use Rattle.std.specs.List.{common_prefix_len};
 ghost use Rattle.lines.specs.Lines.{word as level-word};
 ghost use Rattle.lines.specs.Grammar.{grows, longer, number_on, width_on, leads, level_part, version_part};
 ghost use Rattle.lines.specs.Grammar as grammar;
 ghost use Rattle.line_reader.specs.Fields.{text_of, column_of, end_of, next_of, number_of, version_of};
-ghost use Rattle.line_reader.specs.Parts.{Leading, Reads, Passes, agree, LevelBytes};
+ghost use Rattle.line_reader.specs.Parts.{Leading, Reads, Passes, LevelBytes};
 
 use events::Level;
 use lines::FormFault;
@@ -158,14 +159,12 @@ fn version(text: &[u8], mark: u8, column: usize) -> Result<(Field<'_>, &[u8]), F
 
 // How many bytes the text and the word have in common, from their first on.
 fn common(text: &[u8], word: &[u8]) -> usize
-    ensures agreeing { result ≡ agree word.now text.now }
-    ensures within { (result ≤ length word.now) × (result ≤ length text.now) }
+    ensures { result ≡ common_prefix_len nat_eq word.now text.now }
 {
-    let mut n = 0;
-    while n < text.len() && n < word.len() && text[n] == word[n] {
-        n += 1;
-    }
-    n
+    word.iter()
+        .zip(text)
+        .take_while(|(letter, byte)| letter == byte)
+        .count()
 }
 
 // How many bytes the text has in common with a level's word, with the one that has the most.
@@ -173,10 +172,11 @@ fn level_bytes(text: &[u8]) -> usize
     ensures within { (result ≤ 4) × (result ≤ length text.now) }
     ensures whole_or_stop { LevelBytes text.now result }
 {
-    common(text, b"PL-1")
-        .max(common(text, b"PL-2"))
-        .max(common(text, b"PL-3"))
-        .max(common(text, b"SI"))
+    ["PL-1", "PL-2", "PL-3", "SI"]
+        .iter()
+        .map(|word| common(text, word.as_bytes()))
+        .max()
+        .unwrap_or(0)
 }
 
 // The level that a word names.
