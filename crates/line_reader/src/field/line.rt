@@ -1,7 +1,9 @@
 // The five forms of a line, made of fields.
-ghost use Rattle.std.specs.Prelude.{◌≡◌, ℕ, List, ◌∷◌, Err, MatchResult, ◌≢◌};
+ghost use Rattle.std.specs.Prelude.{◌≡◌, ℕ, ◌^◌, ◌<◌, List, ◌∷◌, Err, MatchResult, ◌≢◌};
+ghost use Rattle.events.specs.declared.Event.{Event as Recorded};
 ghost use Rattle.lines.specs.Lines.{LedBy, NoForm};
-ghost use Rattle.lines.specs.Grammar.{parse, begin_form, read_form, write_form, commit_form, abort_form, forms};
+ghost use Rattle.lines.specs.Grammar.{done, parse, begin_form, read_form, write_form, forms};
+ghost use Rattle.lines.specs.Grammar as grammar;
 ghost use Rattle.line_reader.specs.Parts.{is_letter};
 
 use super::{level, number, version};
@@ -30,8 +32,8 @@ fn form(text: &[u8]) -> Result<(Event, usize), FormFault>
         'b' => begin(rest),
         'r' => read(rest),
         'w' => write(rest),
-        'c' => commit(rest),
-        'a' => abort(rest),
+        'c' => alone(rest, |transaction| Event::Commit { transaction }),
+        'a' => alone(rest, |transaction| Event::Abort { transaction }),
         _ => Err(FormFault { column: 1 }),
     }
 }
@@ -95,22 +97,11 @@ fn write(rest: &[u8]) -> Result<(Event, usize), FormFault>
     Ok((event, item.next()))
 }
 
-fn commit(rest: &[u8]) -> Result<(Event, usize), FormFault>
-    ensures { result ≡ parse commit_form 3 rest.now }
+// A transaction alone, which makes the event.
+fn alone<F: FnOnce(u16) -> Event>(rest: &[u8], event: F) -> Result<(Event, usize), FormFault>
+    requires { F.IsAlwaysCallable event }
+    ensures { (made : ℕ → Recorded) → ((t : ℕ) (e : Recorded) → t < 2 ^ 16 → F.post event t e → e ≡ made t) → result ≡ parse (grammar.number 10 (λ t. done (made t))) 3 rest.now }
 {
     let (transaction, _) = number(rest, b'\n', FIELDS)?;
-    let event = Event::Commit {
-        transaction: transaction.value(),
-    };
-    Ok((event, transaction.next()))
-}
-
-fn abort(rest: &[u8]) -> Result<(Event, usize), FormFault>
-    ensures { result ≡ parse abort_form 3 rest.now }
-{
-    let (transaction, _) = number(rest, b'\n', FIELDS)?;
-    let event = Event::Abort {
-        transaction: transaction.value(),
-    };
-    Ok((event, transaction.next()))
+    Ok((event(transaction.value()), transaction.next()))
 }
