@@ -24,8 +24,8 @@ returns c =
     (YieldsList-from_map _ shared (YieldsList-from_slice words cc) c.map.ensures.closure (λ x r q k. search (rules, tests))) in
     let is : c.unwrap_or.result ≡ most s =
     c.unwrap_or.ensures ∙ picked c.max.result (most s) (most_of ∙ ap (λ ws. reduce max (map shared ws)) c.iter.ensures.rest) in
-    let le = λ (l : Level). common_prefix_len-le eqb (word l) s in
+    let le = λ (l : Level). (common_prefix_len-le eqb (word l) s).1 in
     record {
-      within = (omega (arith, is, (le Pl1).0, (le Pl2).0, (le Pl3).0, (le Si).0), omega (arith, is, (le Pl1).1, (le Pl2).1, (le Pl3).1, (le Si).1));
+      within = omega (arith, is, le Pl1, le Pl2, le Pl3, le Si);
       whole_or_stop = subst (LevelBytes s) (sym is) (level_bytes_lem s);
     }
