@@ -37,7 +37,7 @@ impl Field<'_> {
         ensures { result ≡ number_of self.now }
     {
         match self {
-            Field::Word(_, level) => level.code(),
+            Field::Word(_, level) => u16::from(*level),
             Field::Number(_, value) => *value,
             Field::Version(..) => 0,
         }

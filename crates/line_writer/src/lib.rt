@@ -63,12 +63,12 @@ impl Line {
 fn level_word(code: u16) -> &'static str
     ensures { (result.now ≡ code_word code) × (length result.now ≤ 4) }
 {
-    match Level::from_code(code) {
-        Some(Level::Pl1) => "PL-1",
-        Some(Level::Pl2) => "PL-2",
-        Some(Level::Pl3) => "PL-3",
-        Some(Level::Si) => "SI",
-        None => "",
+    match Level::try_from(code) {
+        Ok(Level::Pl1) => "PL-1",
+        Ok(Level::Pl2) => "PL-2",
+        Ok(Level::Pl3) => "PL-3",
+        Ok(Level::Si) => "SI",
+        Err(_) => "",
     }
 }
 
