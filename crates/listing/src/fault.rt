@@ -48,7 +48,7 @@ pub struct Fault {
 }
 
 // Why a history is not written: some event does not fit after those before it, or the text is too short.
-#[derive(Clone, Copy)]
+#[derive(Clone, Copy, PartialEq, Eq, Debug)]
 pub enum WriteFault {
     NotFit(Unfit),
     TooShort,
