@@ -62,7 +62,7 @@ pub fn draw<H: History, O: VersionOrder>(
     order: &O,
     bytes: &mut [u8],
 )
-    ensures drawn { Tracks table.now (H.Lists.items history.now) → Numbers vertices.now (committed (H.Lists.items history.now)) → unfit_at [] (H.Lists.items history.now) ≡ 0 → 65536 ≤ length bytes.old → Drawn (O.VersionOrder.ranks order.now) (H.Lists.items history.now) bytes.old bytes.new }
+    ensures drawn { Tracks table.now (H.events history.now) → Numbers vertices.now (committed (H.events history.now)) → unfit_at [] (H.events history.now) ≡ 0 → 65536 ≤ length bytes.old → Drawn (O.VersionOrder.ranks order.now) (H.events history.now) bytes.old bytes.new }
     ensures later { drop 65536 bytes.new ≡ drop 65536 bytes.old }
 {
     clear(bytes);

@@ -58,7 +58,7 @@ impl Field<'_> {
         ensures { result ≡ number_of self.now }
     {
         match self {
-            Field::Word { level, .. } => level.code(),
+            Field::Word { level, .. } => u16::from(*level),
             Field::Number { value, .. } => *value,
             Field::Version { .. } => 0,
         }

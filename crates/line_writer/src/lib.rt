@@ -28,12 +28,12 @@ fn digits(n: u16) -> usize
 fn level_word(code: u16) -> &'static [u8]
     ensures { (result.now ≡ code_word code) × (length result.now ≤ 4) }
 {
-    match Level::from_code(code) {
-        Some(Level::Pl1) => b"PL-1",
-        Some(Level::Pl2) => b"PL-2",
-        Some(Level::Pl3) => b"PL-3",
-        Some(Level::Si) => b"SI",
-        None => b"",
+    match Level::try_from(code) {
+        Ok(Level::Pl1) => b"PL-1",
+        Ok(Level::Pl2) => b"PL-2",
+        Ok(Level::Pl3) => b"PL-3",
+        Ok(Level::Si) => b"SI",
+        Err(_) => b"",
     }
 }
 

@@ -13,23 +13,11 @@ use transactions::TransactionTable;
 // The events that the image has room for.
 const CAPACITY: u16 = 4095;
 
-// A recorder on an empty image.
-fn empty_recorder(heap: Global) -> Result<Recorder<Image>, AllocError>
-    ensures { IfOk result (λ recorder. (events_of recorder.tape.bytes.items ≡ []) × (vec_len recorder.tape.bytes / 16 - 1 ≡ 4095)) }
-{
-    let image = Image::new(heap, CAPACITY)?;
-    let table = TransactionTable::new(heap)?;
-    match Recorder::over(image, table) {
-        Ok(recorder) => Ok(recorder),
-        Err(_) => unreachable(),
-    }
-}
-
 // Records a text on an empty image of 65,536 bytes and answers its bytes, or the first fault of the text.
 pub fn pack(heap: Global, text: &[u8]) -> Result<Result<Vec<u8>, Fault>, AllocError>
     ensures { IfOk result (λ outcome. MatchResult outcome (λ bytes. Packs text.now bytes.items) (λ fault. Stops text.now fault)) }
 {
-    let mut recorder = empty_recorder(heap)?;
+    let mut recorder: Recorder<Image> = Recorder::empty(heap, CAPACITY)?;
     match read_listing(&mut recorder, text) {
         Ok(_) => {
             let (image, table) = recorder.into_parts();

@@ -34,7 +34,7 @@ impl Vertices {
     // The committed transactions of an admitted run become the vertices; those that were are forgotten. Goes once through
     // the history.
     pub fn list<H: History>(&mut self, history: &H)
-        ensures { unfit_at [] (H.Lists.items history.now) ≡ 0 → Numbers self.new (committed (H.Lists.items history.now)) }
+        ensures { unfit_at [] (H.events history.now) ≡ 0 → Numbers self.new (committed (H.events history.now)) }
     {
         self.clear();
         for done in 0..history.len() {

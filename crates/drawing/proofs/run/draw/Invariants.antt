@@ -5,6 +5,6 @@ use Rattle.drawing.proofs.run.draw.Given as goal
 
 abbrev pub invariant-loop-done : goal.invariant-loop-done
 invariant-loop-done g l =
-    let es = g.H.Lists.items l.history in
+    let es = g.H.History.events l.history in
     (Drawable l.table l.vertices es l.bytes → Shows es (drawn_by (g.O.VersionOrder.ranks l.order) es (take l.done es)) l.bytes)
     × (drop 65536 l.bytes ≡ drop 65536 l.initial.bytes)

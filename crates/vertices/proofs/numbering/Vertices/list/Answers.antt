@@ -13,9 +13,9 @@ use Rattle.vertices.proofs.numbering.Vertices.list.Goals.{in-Commit, in_default}
 
 pub loop-done-preserved : goal.loop-done-preserved
 loop-done-preserved g c = λ fit.
-    let es = g.H.Lists.items c.args.history.now in
+    let es = g.H.History.events c.args.history.now in
     let p = c.loop-done.done in
-    let lt : p < length es = omega (arith, c.len-done-end.ensures.length, c.loop-done-test.true) in
+    let lt : p < length es = omega (arith, c.len-done-end.ensures, c.loop-done-test.true) in
     let e = c.event.result in
     let is : e ≡ get_or es p Blank = c.event.ensures ∙ at_next es p in
     let more : take p es ++ e ∷ [] ≡ take (p + 1) es = ap (λ (f : Event). take p es ++ f ∷ []) is ∙ sym (take_more es p Blank lt) in
@@ -37,7 +37,7 @@ loop-done-preserved g c = λ fit.
 
 pub returns : goal.returns
 returns g c = λ fit.
-    let es = g.H.Lists.items c.args.history.now in
+    let es = g.H.History.events c.args.history.now in
     let p = c.loop-done.done in
-    let all : length es ≤ p = omega (arith, c.len-done-end.ensures.length, c.loop-done-test.false) in
+    let all : length es ≤ p = omega (arith, c.len-done-end.ensures, c.loop-done-test.false) in
     subst (λ l. Numbers c.loop-done.self (committed l)) (take_all p es all) (c.loop-done.invariant fit)
