@@ -43,7 +43,7 @@ pub struct TransactionTable {
 }
 
 // The first event of a history that a question refuses after those before it, and that refusal.
-#[derive(Clone, Copy)]
+#[derive(Clone, Copy, PartialEq, Eq, Debug)]
 pub struct Unfit {
     pub position: u16,
     pub refusal: Refusal,
