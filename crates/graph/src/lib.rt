@@ -10,7 +10,7 @@ mod starts;
 
 pub use starts::{Span, Starts};
 
-// What an edge stands for. A set of kinds is the sum of their bits.
+// What an edge stands for. A set of kinds is the sum of their bits, in one byte, since a table holds it so.
 #[derive(Clone, Copy, PartialEq, Eq, Debug)]
 pub enum Kind {
     // The head wrote the version next after the tail's.

@@ -16,7 +16,7 @@ use arrayvec::ArrayVec;
 use graph::Graph;
 use marks::Marks;
 
-// What the report begins with, and how many vertices that are.
+// What the report begins with, and how many vertices that are. Either is what was asked for, so this is no Result: a walk is no failure.
 #[derive(Clone, Copy, PartialEq, Eq, Debug)]
 pub enum Found {
     // The order of all vertices.
