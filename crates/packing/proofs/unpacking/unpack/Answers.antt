@@ -3,8 +3,7 @@ use Rattle.events.specs.Questions.{unfit_at}
 use Rattle.lines.specs.Lines.{listing}
 use Rattle.image.specs.Chains.{events_of}
 use Rattle.image.specs.Openings.{Refuses}
-use Rattle.listing.proofs.Writings.{cut_down}
-use Rattle.packing.proofs.Lengths.{fit_short, image_few, too_short}
+use Rattle.packing.proofs.Lengths.{fit_short, cut_down, image_few, too_short}
 use Rattle.packing.proofs.unpacking.unpack.Goals as goal
 
 pub returns-in-Ok-write_listing : goal.returns-in-Ok-write_listing
