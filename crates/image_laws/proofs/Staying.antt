@@ -1,12 +1,11 @@
 -- Bytes that a word put elsewhere leaves as they were.
-use Rattle.std.proofs.Common.{◌≡◌, ℕ, suc, ◌+◌, ◌/◌, ◌%◌, ◌<◌, Bool, true, false, cond, eqb, List, length, get_or, ◌∙◌, inl, inr, arith}
+use Rattle.std.proofs.Common.{◌≡◌, ℕ, zero, suc, ◌+◌, ◌/◌, ◌%◌, ◌<◌, ◌≤◌, Bool, true, false, cond, eqb, List, length, get_or, refl, ap, ◌∙◌, inl, inr, arith}
 use Rattle.std.proofs.lemmas.List.{get_or-set_other}
 use Rattle.events.specs.declared.Event.{Event}
-use Rattle.events.specs.Fields.{transaction_of}
 use Rattle.image.specs.Words.{place, put_word}
-use Rattle.image.specs.Slots.{kind_of, item_of, level_or_writer_of, modification_of, put_event}
+use Rattle.image.specs.Slots.{words_of, put_event}
 use Rattle.image.specs.Chains.{used_slots, last_slot, entered}
-use Rattle.image.proofs.Wording.{length-put, length-put_event}
+use Rattle.image.proofs.Wording.{put_words, event_words, length-put, length-put_event}
 use Rattle.image_laws.specs.Bytes.{OutsideSlot, OutsideWord, Stays}
 
 other_word : (b : List ℕ) (s w v k : ℕ) → OutsideWord s w k → get_or (put_word b s w v) k 0 ≡ get_or b k 0
@@ -21,12 +20,12 @@ outside_word s w k h (inr l) = (λ q. omega arith, λ q. omega arith)
 other_slot : (b : List ℕ) (s w v k : ℕ) → w < 8 → OutsideSlot s k → get_or (put_word b s w v) k 0 ≡ get_or b k 0
 other_slot b s w v k h o = other_word b s w v k (outside_word s w k h o)
 
+other_words : (b : List ℕ) (s : ℕ) (ws : List ℕ) (n k : ℕ) → n ≤ 8 → OutsideSlot s k → get_or (put_words b s ws n) k 0 ≡ get_or b k 0
+other_words b s ws zero k l o = refl
+other_words b s ws (suc n) k l o = other_slot _ s n _ k (omega arith) o ∙ other_words b s ws n k (omega arith) o
+
 other_event : (b : List ℕ) (s : ℕ) (e : Event) (k : ℕ) → OutsideSlot s k → get_or (put_event b s e) k 0 ≡ get_or b k 0
-unfolding put_event
-other_event b s e k o =
-    other_slot _ s 7 0 k (omega arith) o ∙ other_slot _ s 6 0 k (omega arith) o ∙ other_slot _ s 5 0 k (omega arith) o
-    ∙ other_slot _ s 4 (modification_of e) k (omega arith) o ∙ other_slot _ s 3 (level_or_writer_of e) k (omega arith) o
-    ∙ other_slot _ s 2 (item_of e) k (omega arith) o ∙ other_slot _ s 1 (transaction_of e) k (omega arith) o ∙ other_slot b s 0 (kind_of e) k (omega arith) o
+other_event b s e k o = ap (λ l. get_or l k 0) (event_words b s e) ∙ other_words b s (words_of e) 8 k (omega arith) o
 
 other_link : (c : Bool) (b : List ℕ) (last new k : ℕ) → OutsideSlot 0 k → OutsideWord last 5 k → get_or (cond c (put_word b 0 0 new) (put_word b last 5 new)) k 0 ≡ get_or b k 0
 other_link true b last new k o h = other_slot b 0 0 new k (omega arith) o

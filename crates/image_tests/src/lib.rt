@@ -7,7 +7,7 @@ mod images;
 #[cfg(test)]
 mod tests {
     use crate::images::{GOOD, REFUSED};
-    use packing::{pack, refusal_line, unpack};
+    use packing::{PackFault, UnpackFault, pack, refusal_line, unpack};
     use std::alloc::{AllocError, Global};
     use std::process::Abort;
     use std::test::Fail;
@@ -15,23 +15,18 @@ mod tests {
     // The bytes of slots, low byte first.
     fn bytes_of(heap: Global, slots: &[[u16; 8]]) -> Result<Vec<u8>, AllocError> {
         let mut bytes = Vec::new(heap);
-        for slot in slots {
-            for word in slot {
-                bytes.push((*word & 0xff) as u8)?;
-                bytes.push((*word >> 8) as u8)?;
-            }
+        for word in slots.as_flattened() {
+            bytes.extend_from_slice(&word.to_le_bytes())?;
         }
         Ok(bytes)
     }
 
     // What unpacking says: the listing, or the line of the refusal.
     fn unpacked(heap: Global, bytes: Vec<u8>) -> Result<Vec<u8>, Fail> {
-        match unpack(heap, bytes)? {
+        match unpack(heap, bytes) {
             Ok(text) => Ok(text),
-            Err(fault) => {
-                let line = refusal_line(heap, fault)?;
-                Ok(line.as_bytes().to_vec(heap)?)
-            }
+            Err(UnpackFault::NoMemory) => Err(AllocError.into()),
+            Err(fault) => Ok(refusal_line(heap, fault)?.into_bytes()),
         }
     }
 
@@ -82,14 +77,15 @@ mod tests {
         for _ in 0..4094u16 {
             text.push_str("r 1 1024 0.0\n")?;
         }
-        match pack(rt.alloc(), text.as_bytes())? {
+        match pack(rt.alloc(), text.as_bytes()) {
             Ok(bytes) => {
                 assert!(rt; bytes.len() == 65536);
                 let again = unpacked(rt.alloc(), bytes)?;
                 assert!(rt; again.as_slice() == text.as_bytes());
                 Ok(())
             }
-            Err(_) => Err(Fail::new("the listing has no fault")),
+            Err(PackFault::Listing(_)) => Err(Fail::new("the listing has no fault")),
+            Err(PackFault::NoMemory) => Err(AllocError.into()),
         }
     }
 }

@@ -2,20 +2,21 @@
 // line that says so.
 #![tactic(auto)]
 
-use packing::pack;
+use packing::{PackFault, pack};
 use relisting::summary;
+use std::alloc::AllocError;
 use std::io::{Read, Write};
 
 fn run(rt: &HostRuntime) -> anyhow::Result<()> {
     let mut text = Vec::new(rt.alloc());
     rt.stdin().read_to_end(&mut text)?;
-    let mut out = rt.stdout();
-    match pack(rt.alloc(), text.as_slice())? {
-        Ok(bytes) => out.write_all(bytes.as_slice())?,
-        Err(fault) => {
+    match pack(rt.alloc(), &text) {
+        Ok(bytes) => rt.stdout().write_all(&bytes)?,
+        Err(PackFault::Listing(fault)) => {
             let line = summary(rt.alloc(), Err(fault))?;
-            out.write_all(line.as_bytes())?;
+            print!(rt; "{line}")?;
         }
+        Err(PackFault::NoMemory) => return Err(AllocError.into()),
     }
     Ok(())
 }

@@ -6,5 +6,5 @@ mod packing;
 mod unpacking;
 
 pub use keeping::{copy_to_image, reopen};
-pub use packing::pack;
+pub use packing::{PackFault, pack};
 pub use unpacking::{UnpackFault, refusal_line, unpack};

@@ -1,7 +1,7 @@
 // A listing packed into an image.
-ghost use Rattle.std.specs.Prelude.{◌≡◌, ◌-◌, ◌/◌, [], IfOk, vec_len, MatchResult};
-ghost use Rattle.image.specs.Chains.{events_of};
-ghost use Rattle.packing.specs.Packs.{Packs, Stops};
+ghost use Rattle.std.specs.Prelude.{◌≡◌, MatchResult};
+ghost use Rattle.packing.specs.Packs.{Packs, Halts};
+ghost use Rattle.packing.specs.declared.packing.PackFault.TheVariants.{Listing, NoMemory};
 
 use history::{History, Tape};
 use image::Image;
@@ -13,17 +13,36 @@ use transactions::TransactionTable;
 // The events that the image has room for.
 const CAPACITY: u16 = 4095;
 
-// Records a text on an empty image of 65,536 bytes and answers its bytes, or the first fault of the text.
-pub fn pack(heap: Global, text: &[u8]) -> Result<Result<Vec<u8>, Fault>, AllocError>
-    ensures { IfOk result (λ outcome. MatchResult outcome (λ bytes. Packs text.now bytes.items) (λ fault. Stops text.now fault)) }
+// Why a listing is not packed: its first fault, or there is no memory.
+#[derive(Clone, Copy)]
+pub enum PackFault {
+    Listing(Fault),
+    NoMemory,
+}
+
+impl From<Fault> for PackFault {
+    ghost from_gives = { λ fault r. r ≡ Listing fault };
+
+    fn from(fault: Fault) -> PackFault {
+        PackFault::Listing(fault)
+    }
+}
+
+impl From<AllocError> for PackFault {
+    ghost from_gives = { λ _ r. r ≡ NoMemory };
+
+    fn from(_: AllocError) -> PackFault {
+        PackFault::NoMemory
+    }
+}
+
+// Records a text on an empty image of 65,536 bytes and answers its bytes.
+pub fn pack(heap: Global, text: &[u8]) -> Result<Vec<u8>, PackFault>
+    ensures { MatchResult result (λ bytes. Packs text.now bytes.items) (λ fault. Halts text.now fault) }
 {
     let mut recorder: Recorder<Image> = Recorder::empty(heap, CAPACITY)?;
-    match read_listing(&mut recorder, text) {
-        Ok(_) => {
-            let (image, table) = recorder.into_parts();
-            drop(table);
-            Ok(Ok(image.into_bytes()))
-        }
-        Err(fault) => Ok(Err(fault)),
-    }
+    read_listing(&mut recorder, text)?;
+    let (image, table) = recorder.into_parts();
+    drop(table);
+    Ok(image.into_bytes())
 }
