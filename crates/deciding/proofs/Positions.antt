@@ -1,35 +1,53 @@
--- Positions of begins and commits, one vertex more, and as far as the vertices go.
-use Rattle.std.proofs.Common.{◌≡◌, ℕ, ◌+◌, ◌<◌, ◌≤◌, List, length, get_or, take, set, sym, ap, ◌∙◌, inl, inr, arith, length-take}
-use Rattle.std.proofs.lemmas.List.{get_or-set_same, get_or-set_other, get_or-take}
+-- Positions of begins and commits, one vertex more.
+use Rattle.std.proofs.Common.{◌≡◌, ℕ, ◌<◌, ◌≤◌, List, [], ◌∷◌, ◌++◌, length, get_or, ap, subst, sym, ◌∙◌, inl, inr, arith}
+use Rattle.std.proofs.Math.Seq.{get_or-append_seam}
+use Rattle.std.proofs.lemmas.List.{get_or_append_left, length-append, length-map, map-append}
 use Rattle.std.proofs.lemmas.Bool.{cases_eq}
 use Rattle.events.specs.declared.Event.{Event}
 use Rattle.events.specs.Runs.{begin_at, commit_at}
+use Rattle.graph.specs.declared.starts.Span.{Span}
+use Rattle.graph.specs.Starts.{begins_of, ends_of}
 use Rattle.verdicts.specs.Versions.{committed}
 use Rattle.vertex_laws.specs.Laws.{Spans}
-use Rattle.deciding.specs.Spans.{Spanned}
 
--- a list that has f of each place below v has it of each below v + 1 once it is set at v
-one_more : (f : ℕ → ℕ) (xs : List ℕ) (v x : ℕ) → v < length xs → x ≡ f v → ((u : ℕ) → u < v → get_or xs u 0 ≡ f u) → (u : ℕ) → u < v + 1 → get_or (set xs v x) u 0 ≡ f u
-one_more f xs v x within is below u h =
-    elim (cases_eq u v) [
-      | inl e ↦ ap (λ (w : ℕ). get_or (set xs v x) w 0) e ∙ get_or-set_same xs v x 0 within ∙ is ∙ ap f (sym e)
-      | inr n ↦ get_or-set_other xs v u x 0 n ∙ below u (omega arith)
+-- the list has f of each of its places
+abbrev Has : (ℕ → ℕ) → List ℕ → Type 0
+Has f xs = (v : ℕ) → v < length xs → get_or xs v 0 ≡ f v
+
+has_more : (f : ℕ → ℕ) (xs : List ℕ) (x : ℕ) → x ≡ f (length xs) → Has f xs → Has f (xs ++ x ∷ [])
+has_more f xs x is below v h =
+    elim (cases_eq v (length xs)) [
+      | inl e ↦ ap (λ (w : ℕ). get_or (xs ++ x ∷ []) w 0) e ∙ get_or-append_seam xs x [] 0 ∙ is ∙ ap f (sym e)
+      | inr n ↦ let l : v < length xs = omega (arith, length-append xs (x ∷ [])) in get_or_append_left xs (x ∷ []) 0 v l ∙ below v l
     ]
 
-pub spanned_none : (es : List Event) (begins ends : List ℕ) → Spanned es 0 begins ends
-spanned_none es begins ends = record { began = λ v h. absurd (omega arith); ended = λ v h. absurd (omega arith) }
+-- the spans so far have where the transactions of their vertices began and committed
+pub record Spanned (es : List Event) (spans : List Span) : Type 0 where
+  pub began : (v : ℕ) → v < length (begins_of spans) → get_or (begins_of spans) v 0 ≡ begin_at es (get_or (committed es) v 0)
+  pub ended : (v : ℕ) → v < length (ends_of spans) → get_or (ends_of spans) v 0 ≡ commit_at es (get_or (committed es) v 0)
 
-pub spanned_more : (es : List Event) (v b e : ℕ) (begins ends : List ℕ) → v < length begins → v < length ends → b ≡ begin_at es (get_or (committed es) v 0) → e ≡ commit_at es (get_or (committed es) v 0)
-    → Spanned es v begins ends → Spanned es (v + 1) (set begins v b) (set ends v e)
-spanned_more es v b e begins ends wb we ib ie s = record {
-  began = one_more (λ (u : ℕ). begin_at es (get_or (committed es) u 0)) begins v b wb ib s.began;
-  ended = one_more (λ (u : ℕ). commit_at es (get_or (committed es) u 0)) ends v e we ie s.ended;
-}
+pub spanned_none : (es : List Event) → Spanned es []
+spanned_none es = record { began = λ v h. absurd (omega arith); ended = λ v h. absurd (omega arith) }
 
--- the front of both lists, as long as there are vertices
-pub front_spans : (es : List Event) (n : ℕ) (begins ends : List ℕ) → n ≡ length (committed es) → n ≤ 256 → length begins ≡ 256 → length ends ≡ 256 → Spanned es n begins ends → Spans es (take n begins) (take n ends)
-front_spans es n begins ends all few lb le s = record {
-  all = omega (arith, length-take n begins, length-take n ends);
-  each_begin = λ v h. get_or-take n begins v 0 (omega arith) ∙ s.began v (omega arith);
-  end_at = λ v h. get_or-take n ends v 0 (omega arith) ∙ s.ended v (omega arith);
-}
+pub spanned_more : (es : List Event) (spans : List Span) (v : ℕ) (s : Span) → length spans ≡ v
+    → s.begin ≡ begin_at es (get_or (committed es) v 0) → s.end ≡ commit_at es (get_or (committed es) v 0) → Spanned es spans → Spanned es (spans ++ s ∷ [])
+spanned_more es spans v s many ib ie was =
+    let begun : length (begins_of spans) ≡ v = length-map spans (λ (s : Span). s.begin) ∙ many in
+    let ended : length (ends_of spans) ≡ v = length-map spans (λ (s : Span). s.end) ∙ many in
+    record {
+      began = subst (Has (λ (u : ℕ). begin_at es (get_or (committed es) u 0))) (sym (map-append (λ (s : Span). s.begin) spans (s ∷ [])))
+          (has_more (λ (u : ℕ). begin_at es (get_or (committed es) u 0)) (begins_of spans) s.begin (ib ∙ ap (λ (u : ℕ). begin_at es (get_or (committed es) u 0)) (sym begun)) was.began);
+      ended = subst (Has (λ (u : ℕ). commit_at es (get_or (committed es) u 0))) (sym (map-append (λ (s : Span). s.end) spans (s ∷ [])))
+          (has_more (λ (u : ℕ). commit_at es (get_or (committed es) u 0)) (ends_of spans) s.end (ie ∙ ap (λ (u : ℕ). commit_at es (get_or (committed es) u 0)) (sym ended)) was.ended);
+    }
+
+-- as many spans as vertices
+pub spans_all : (es : List Event) (spans : List Span) → length spans ≡ length (committed es) → length spans ≤ 256 → Spanned es spans → Spans es (begins_of spans) (ends_of spans)
+spans_all es spans all few s =
+    let begun : length (begins_of spans) ≡ length spans = length-map spans (λ (s : Span). s.begin) in
+    let ended : length (ends_of spans) ≡ length spans = length-map spans (λ (s : Span). s.end) in
+    record {
+      all = omega arith;
+      each_begin = λ v h. s.began v (omega arith);
+      end_at = λ v h. s.ended v (omega arith);
+    }

@@ -10,18 +10,19 @@ ghost use Rattle.deciding.specs.Decisions.{count_of, decision_of, Settles, Decid
 ghost use Rattle.deciding.specs.Searches.{found_count};
 
 use crate::decision::Decision;
-use crate::searching::{search_all, search_kinds, write_names};
+use crate::searching::{Edges, write_names};
+use graph::Kind;
 use search::{Found, Short};
 use transactions::TransactionTable;
 use verdicts::Finding;
 use vertices::Vertices;
 
 // The sets of kinds along which a closed walk is G0, G1c or G2: ww alone; ww and wr; ww, wr and rw.
-const G0_KINDS: u8 = 1;
+const G0_KINDS: u8 = Kind::Ww as u8;
 
-const G1C_KINDS: u8 = 3;
+const G1C_KINDS: u8 = Kind::Ww as u8 | Kind::Wr as u8;
 
-const G2_KINDS: u8 = 7;
+const G2_KINDS: u8 = Kind::Ww as u8 | Kind::Wr as u8 | Kind::Rw as u8;
 
 impl Decision {
     // How many numbers stand at the front of the report.
@@ -50,33 +51,30 @@ fn decision(finding: Finding, found: Found) -> Decision
     }
 }
 
-// Decides by vertices, which it writes to the front of a list.
-fn settle(
-    table: &TransactionTable,
-    vertices: &Vertices,
-    bytes: &[u8],
-    real_time: bool,
-    found: &mut [u16; 256],
-) -> Decision
-    ensures few { count_of result ≤ 256 }
-    ensures settled { (rank : ℕ → ℕ → ℕ) (es : List AnEvent) → Tracks table.now es → Numbers vertices.now (committed es) → unfit_at [] es ≡ 0 → ShowsKinds rank es bytes.now → Settles rank es real_time result found.new }
-{
-    let by_ww = search_kinds(vertices, bytes, G0_KINDS, found);
-    if let Found::Walk(_) = by_ww {
-        return decision(Finding::G0, by_ww);
-    }
-    let by_wr = search_kinds(vertices, bytes, G1C_KINDS, found);
-    if let Found::Walk(_) = by_wr {
-        return decision(Finding::G1c, by_wr);
-    }
-    let by_rw = search_kinds(vertices, bytes, G2_KINDS, found);
-    if let Found::Walk(_) = by_rw {
-        return decision(Finding::G2, by_rw);
-    }
-    if real_time {
-        decision(Finding::Rt, search_all(table, vertices, bytes, found))
-    } else {
-        decision(Finding::G2, by_rw)
+impl Edges<'_> {
+    // Decides by vertices, which it writes to the front of a list. Each search rests on what the one before it did not find, so
+    // they stand one after the other.
+    fn settle(&self, real_time: bool, found: &mut [u16; 256]) -> Decision
+        ensures few { count_of result ≤ 256 }
+        ensures settled { (rank : ℕ → ℕ → ℕ) (es : List AnEvent) → Tracks self.now.table.now es → Numbers self.now.vertices.now (committed es) → unfit_at [] es ≡ 0 → ShowsKinds rank es self.now.bytes.now → Settles rank es real_time result found.new }
+    {
+        let by_ww = self.search_kinds(G0_KINDS, found);
+        if let Found::Walk(_) = by_ww {
+            return decision(Finding::G0, by_ww);
+        }
+        let by_wr = self.search_kinds(G1C_KINDS, found);
+        if let Found::Walk(_) = by_wr {
+            return decision(Finding::G1c, by_wr);
+        }
+        let by_rw = self.search_kinds(G2_KINDS, found);
+        if let Found::Walk(_) = by_rw {
+            return decision(Finding::G2, by_rw);
+        }
+        if real_time {
+            decision(Finding::Rt, self.search_all(found))
+        } else {
+            decision(Finding::G2, by_rw)
+        }
     }
 }
 
@@ -97,7 +95,12 @@ pub fn decide(
         return Err(Short);
     }
     let mut found = [0; 256];
-    let decision = settle(table, vertices, bytes, real_time, &mut found);
+    let edges = Edges {
+        table,
+        vertices,
+        bytes,
+    };
+    let decision = edges.settle(real_time, &mut found);
     write_names(vertices, &found, decision.count() as usize, report);
     Ok(decision)
 }

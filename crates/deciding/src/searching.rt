@@ -1,5 +1,4 @@
-// Searches of a run's edges in force. The table tracks the run, the vertices are its committed transactions, and the bytes
-// show its kinds.
+// Searches of a run's edges in force.
 ghost use Rattle.std.specs.Prelude.{◌≡◌, ℕ, ◌≤◌, Bool, true, List, [], length, take, drop};
 ghost use Rattle.events.specs.declared.Event.{Event as AnEvent};
 ghost use Rattle.events.specs.Questions.{unfit_at};
@@ -15,11 +14,20 @@ ghost use Rattle.vertex_laws.specs.Vertices.{named};
 ghost use Rattle.vertex_laws.specs.Laws.{ShowsEdges};
 ghost use Rattle.deciding.specs.Searches.{Searched, found_count};
 
-use crate::spans::write_spans;
+use crate::spans::spans_of;
 use graph::{Filter, Graph, Starts, Table, Union};
 use search::Found;
 use transactions::TransactionTable;
 use vertices::Vertices;
+
+// The edges in force of a run: the table that tracks it, the vertices that are its committed transactions, and the bytes that
+// show its kinds.
+#[derive(Clone, Copy)]
+pub(crate) struct Edges<'a> {
+    pub(crate) table: &'a TransactionTable,
+    pub(crate) vertices: &'a Vertices,
+    pub(crate) bytes: &'a [u8],
+}
 
 // Searches any graph; an array of 256 has room for every vertex.
 fn search_in<G: Graph>(graph: &G, found: &mut [u16; 256]) -> Found
@@ -31,48 +39,46 @@ fn search_in<G: Graph>(graph: &G, found: &mut [u16; 256]) -> Found
     }
 }
 
-// Searches along kinds of the table, by a set of bits that shows the edges of these kinds.
-pub(crate) fn search_kinds(
-    vertices: &Vertices,
-    bytes: &[u8],
-    set: u8,
-    found: &mut [u16; 256],
-) -> Found
-    ensures few { found_count result ≤ 256 }
-    ensures searched { (rank : ℕ → ℕ → ℕ) (es : List AnEvent) (real_time : Bool) (kinds : List AKind) → Numbers vertices.now (committed es) → unfit_at [] es ≡ 0 → ShowsEdges rank es real_time kinds (length (committed es)) (joined (filtered (tabled (length (committed es)) bytes.now) set)) → Searched rank es real_time kinds found.new result }
-{
-    let graph = Table {
-        bytes,
-        size: vertices.count() as usize,
-    };
-    search_in(&Filter { graph, kinds: set }, found)
+impl<'a> Edges<'a> {
+    // Searches along kinds of the table, by a set of bits that shows the edges of these kinds.
+    pub(crate) fn search_kinds(&self, set: u8, found: &mut [u16; 256]) -> Found
+        ensures few { found_count result ≤ 256 }
+        ensures searched { (rank : ℕ → ℕ → ℕ) (es : List AnEvent) (real_time : Bool) (kinds : List AKind) → Numbers self.now.vertices.now (committed es) → unfit_at [] es ≡ 0 → ShowsEdges rank es real_time kinds (length (committed es)) (joined (filtered (tabled (length (committed es)) self.now.bytes.now) set)) → Searched rank es real_time kinds found.new result }
+    {
+        let graph = self.kinds();
+        search_in(&Filter { graph, kinds: set }, found)
+    }
+
+    // Searches along all kinds, with real time on: those of the table and the start edges.
+    pub(crate) fn search_all(&self, found: &mut [u16; 256]) -> Found
+        ensures few { found_count result ≤ 256 }
+        ensures searched { (rank : ℕ → ℕ → ℕ) (es : List AnEvent) → Tracks self.now.table.now es → Numbers self.now.vertices.now (committed es) → unfit_at [] es ≡ 0 → ShowsKinds rank es self.now.bytes.now → Searched rank es true every_kind found.new result }
+    {
+        let spans = spans_of(self.table, self.vertices);
+        let graph = Union {
+            first: self.kinds(),
+            second: Starts {
+                spans: spans.as_slice(),
+            },
+        };
+        search_in(&graph, found)
+    }
+
+    // The edges of the table.
+    fn kinds(&self) -> Table<'a>
+        ensures bytes { result.bytes.now ≡ self.now.bytes.now }
+        ensures all { (cs : List ℕ) → Numbers self.now.vertices.now cs → result.size ≡ length cs }
+        ensures few { result.size ≤ 256 }
+    {
+        Table {
+            bytes: self.bytes,
+            size: self.vertices.count() as usize,
+        }
+    }
 }
 
-// Searches along all kinds, with real time on: those of the table and the start edges.
-pub(crate) fn search_all(
-    table: &TransactionTable,
-    vertices: &Vertices,
-    bytes: &[u8],
-    found: &mut [u16; 256],
-) -> Found
-    ensures few { found_count result ≤ 256 }
-    ensures searched { (rank : ℕ → ℕ → ℕ) (es : List AnEvent) → Tracks table.now es → Numbers vertices.now (committed es) → unfit_at [] es ≡ 0 → ShowsKinds rank es bytes.now → Searched rank es true every_kind found.new result }
-{
-    let mut begins = [0; 256];
-    let mut ends = [0; 256];
-    write_spans(table, vertices, &mut begins, &mut ends);
-    let size = vertices.count() as usize;
-    let graph = Union {
-        first: Table { bytes, size },
-        second: Starts {
-            begins: &begins[0..size],
-            ends: &ends[0..size],
-        },
-    };
-    search_in(&graph, found)
-}
-
-// Writes to the front of a report which transactions the first so many vertices of a list are.
+// Writes to the front of a report which transactions the first so many vertices of a list are. By place: of what is written
+// through an adapter of iter_mut, a proof knows nothing.
 pub(crate) fn write_names(vertices: &Vertices, found: &[u16; 256], count: usize, report: &mut [u16])
     requires { (count ≤ 256) × (256 ≤ length report.old) }
     ensures names { (cs : List ℕ) → Numbers vertices.now cs → take count report.new ≡ named cs (take count found.now) }

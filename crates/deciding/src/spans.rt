@@ -1,26 +1,28 @@
 // Where the transaction of each vertex began and committed.
-ghost use Rattle.std.specs.Prelude.{◌≡◌, List, length};
+ghost use Rattle.std.specs.Prelude.{◌≡◌, List};
 ghost use Rattle.events.specs.declared.Event.{Event as AnEvent};
+ghost use Rattle.graph.specs.Starts.{begins_of, ends_of};
 ghost use Rattle.transactions.specs.Tracks.{Tracks};
 ghost use Rattle.verdicts.specs.Versions.{committed};
 ghost use Rattle.vertices.specs.Numbering.{Numbers};
-ghost use Rattle.deciding.specs.Spans.{Spanned};
+ghost use Rattle.vertex_laws.specs.Laws.{Spans};
 
+use arrayvec::ArrayVec;
+use graph::Span;
 use transactions::TransactionTable;
 use vertices::Vertices;
 
-// Writes the positions of all begins and commits, by vertex.
-pub(crate) fn write_spans(
-    table: &TransactionTable,
-    vertices: &Vertices,
-    begins: &mut [u16; 256],
-    ends: &mut [u16; 256],
-)
-    ensures { (es : List AnEvent) → Tracks table.now es → Numbers vertices.now (committed es) → Spanned es (length (committed es)) begins.new ends.new }
+// The positions of all begins and commits, by vertex.
+pub(crate) fn spans_of(table: &TransactionTable, vertices: &Vertices) -> ArrayVec<Span, 256>
+    ensures { (es : List AnEvent) → Tracks table.now es → Numbers vertices.now (committed es) → Spans es (begins_of result.items) (ends_of result.items) }
 {
+    let mut spans = ArrayVec::new();
     for vertex in 0..vertices.count() {
         let entry = table.transaction(vertices.transaction(vertex));
-        begins[vertex as usize] = entry.begin;
-        ends[vertex as usize] = entry.commit;
+        spans.push(Span {
+            begin: entry.begin,
+            end: entry.commit,
+        });
     }
+    spans
 }

@@ -1,12 +1,11 @@
 -- Bytes that show what the events of a run draw, one event after the other.
-use Rattle.std.proofs.Common.{◌≡◌, ℕ, ◌+◌, ◌<◌, ◌≤◌, Bool, true, false, ◌&&◌, ◌||◌, eqb, ltb, ◌⊎◌, List, [], ◌∷◌, ◌++◌, length, get_or, take, sym, refl, ap, ◌∙◌, subst, inl, inr, arith}
-use Rattle.std.proofs.lemmas.List.{take_more, take_all}
+use Rattle.std.proofs.Common.{◌≡◌, ℕ, ◌<◌, Bool, true, false, ◌&&◌, ◌||◌, eqb, ltb, ◌⊎◌, List, [], ◌∷◌, ◌++◌, length, get_or, sym, refl, ap, ◌∙◌, subst, inl, inr, arith}
 use Rattle.std.proofs.lemmas.Bool.{cases_Bool, and_parts, and_right, cond_both, eqb-true, both_ways, false≢true}
 use Rattle.events.specs.declared.Event.{Event}
 use Rattle.events.specs.declared.Event.TheVariants.{Blank, Begin, Read, Write, Commit, Abort}
 use Rattle.events.specs.Lists.{any}
 use Rattle.events.specs.Fields.{transaction_of, by, on_read, on_write}
-use Rattle.events.specs.Runs.{at, has_committed}
+use Rattle.events.specs.Runs.{has_committed}
 use Rattle.events.proofs.Pushes.{any_push}
 use Rattle.graph.specs.declared.Kind.{Kind}
 use Rattle.graph.specs.declared.Kind.TheVariants.{Ww, Wr, Rw, Start}
@@ -14,7 +13,6 @@ use Rattle.graph.specs.Kinds.{bit_of}
 use Rattle.verdicts.specs.Versions.{committed, is_ordered, next}
 use Rattle.verdicts.specs.Edges.{above_pl1, at_pl3, apart, draws_wr, draws_rw, kind_sum, in_force}
 use Rattle.verdicts.specs.Tables.{byte, Grid, ShowsKinds}
-use Rattle.history.proofs.Places.{at_next}
 use Rattle.verdicts.proofs.Committed.{apart_parts}
 use Rattle.transactions.specs.declared.table.TransactionTable.{TransactionTable}
 use Rattle.vertices.specs.declared.numbering.Vertices.{Vertices}
@@ -153,15 +151,10 @@ module _ (rank : ℕ → ℕ → ℕ) (es : List Event) where
       none false = refl
 
   -- a front that goes one event further
-  pub shows_further : (p : ℕ) (e : Event) (bytes : List ℕ) → p < length es → e ≡ at es (p + 1)
-      → Shows es (drawing rank es e (drawn_by rank es (take p es))) bytes → Shows es (drawn_by rank es (take (p + 1) es)) bytes
-  shows_further p e bytes lt is h =
-      subst (λ front. Shows es (drawn_by rank es front) bytes) on
-      (shows_same es (drawing rank es e (drawn_by rank es (take p es))) (drawn_by rank es (take p es ++ e ∷ []))
-      (λ k i j. ap (λ b. apart es i j && b) (sym (any_push (λ d. draws rank es k d i j) (take p es) e))) bytes h)
-    where
-      on : take p es ++ e ∷ [] ≡ take (p + 1) es
-      on = ap (λ d. take p es ++ d ∷ []) (is ∙ at_next es p) ∙ sym (take_more es p Blank lt)
+  pub shows_further : (front : List Event) (e : Event) (bytes : List ℕ) → Shows es (drawing rank es e (drawn_by rank es front)) bytes → Shows es (drawn_by rank es (front ++ e ∷ [])) bytes
+  shows_further front e bytes =
+      shows_same es (drawing rank es e (drawn_by rank es front)) (drawn_by rank es (front ++ e ∷ []))
+      (λ k i j. ap (λ b. apart es i j && b) (sym (any_push (λ d. draws rank es k d i j) front e))) bytes
 
   -- at last all kinds in force are shown
   in_force_lem : (k : Kind) (i j : ℕ) → (apart es i j && drawn_by rank es es k i j) ≡ in_force rank es false k i j
@@ -170,14 +163,18 @@ module _ (rank : ℕ → ℕ → ℕ) (es : List Event) where
   in_force_lem Rw i j = under (apart es i j) (at_pl3 es i) (draws_rw rank es i j) es
   in_force_lem Start i j = and_right (apart es i j) (any (λ e. false) es) (none_any es)
 
-  pub shows_kinds : (p : ℕ) (bytes : List ℕ) → length es ≤ p → Shows es (drawn_by rank es (take p es)) bytes → ShowsKinds rank es bytes
+  pub shows_kinds : (bytes : List ℕ) → Shows es (drawn_by rank es es) bytes → ShowsKinds rank es bytes
   unfolding Shows
-  shows_kinds p bytes all h =
+  shows_kinds bytes =
       grid_same (committed es) (λ i j. sum_of (λ k. apart es i j && drawn_by rank es es k i j)) (kind_sum rank es false)
       (λ i j. sum_same (λ k. apart es i j && drawn_by rank es es k i j) (λ k. in_force rank es false k i j) (λ k. in_force_lem k i j)) bytes
-      (subst (λ front. Shows es (drawn_by rank es front) bytes) (take_all p es all) h)
 
 -- bytes that are as long as they were are enough still
 pub still_drawable : (table : TransactionTable) (vertices : Vertices) (es : List Event) (before after : List ℕ) → length after ≡ length before
     → Drawable table vertices es before → Drawable table vertices es after
 still_drawable table vertices es before after same d = record { tracks = d.tracks; numbers = d.numbers; fit = d.fit; enough = omega (arith, d.enough) }
+
+-- what is drawable by a table and vertices is so by others that are the same
+pub drawable_by : (table table' : TransactionTable) (vertices vertices' : Vertices) → table' ≡ table → vertices' ≡ vertices → (es : List Event) (bytes : List ℕ) → Drawable table vertices es bytes → Drawable table' vertices' es bytes
+drawable_by table table' vertices vertices' t v es bytes d =
+    subst (λ w. Drawable table' w es bytes) (sym v) (subst (λ s. Drawable s vertices es bytes) (sym t) d)

@@ -11,18 +11,15 @@ use transactions::TransactionTable;
 pub fn above_pl1(table: &TransactionTable, transaction: u16) -> bool
     ensures { (es : List AnEvent) → Tracks table.now es → result ≡ above_pl1 es transaction }
 {
-    match table.transaction(transaction).level {
-        Some(Level::Pl2 | Level::Pl3 | Level::Si) => true,
-        Some(Level::Pl1) | None => false,
-    }
+    matches!(
+        table.transaction(transaction).level,
+        Some(Level::Pl2 | Level::Pl3 | Level::Si)
+    )
 }
 
 // Whether a transaction runs at PL-3.
 pub fn at_pl3(table: &TransactionTable, transaction: u16) -> bool
     ensures { (es : List AnEvent) → Tracks table.now es → result ≡ at_pl3 es transaction }
 {
-    match table.transaction(transaction).level {
-        Some(Level::Pl3) => true,
-        Some(Level::Pl1 | Level::Pl2 | Level::Si) | None => false,
-    }
+    matches!(table.transaction(transaction).level, Some(Level::Pl3))
 }

@@ -9,48 +9,12 @@ ghost use Rattle.vertices.specs.Numbering.{Numbers};
 ghost use Rattle.drawing.specs.Drawable.{Drawable};
 ghost use Rattle.drawing.specs.EdgeSets.{EdgeSet, Shows, drawing};
 
-use crate::edges::{draw_rw, draw_wr, draw_ww};
-use events::Event;
+use crate::edges::Drawing;
 use history::History;
 use kind_table::clear;
 use transactions::TransactionTable;
 use versions::VersionOrder;
 use vertices::Vertices;
-
-// Draws the edges in force of an event; none where its transaction has not committed.
-fn draw_event<O: VersionOrder>(
-    table: &TransactionTable,
-    vertices: &Vertices,
-    order: &O,
-    event: Event,
-    bytes: &mut [u8],
-)
-    ensures shows { (es : List AnEvent) (set : EdgeSet) → Drawable table.now vertices.now es bytes.old → Shows es set bytes.old → Shows es (drawing (O.VersionOrder.ranks order.now) es event set) bytes.new }
-    ensures later { drop 65536 bytes.new ≡ drop 65536 bytes.old }
-{
-    if !table.transaction(event.transaction()).has_committed() {
-        return;
-    }
-    match event {
-        Event::Write { transaction, item } => draw_ww(
-            table,
-            vertices,
-            order,
-            transaction,
-            item,
-            bytes,
-        ),
-        Event::Read {
-            transaction,
-            item,
-            version: (writer, _),
-        } => {
-            draw_wr(table, vertices, transaction, writer, bytes);
-            draw_rw(table, vertices, order, transaction, item, writer, bytes);
-        }
-        _ => {}
-    }
-}
 
 // Draws the edges in force of a run into bytes that held anything: byte 256 * tail + head gets the sum of the kinds from the
 // transaction of vertex tail to that of vertex head, and every other of the first 65,536 bytes 0. The table tracks the run,
@@ -62,11 +26,12 @@ pub fn draw<H: History, O: VersionOrder>(
     order: &O,
     bytes: &mut [u8],
 )
-    ensures drawn { Tracks table.now (H.events history.now) → Numbers vertices.now (committed (H.events history.now)) → unfit_at [] (H.events history.now) ≡ 0 → 65536 ≤ length bytes.old → Drawn (O.VersionOrder.ranks order.now) (H.events history.now) bytes.old bytes.new }
+    ensures drawn { Tracks table.now (H.events history.now) → Numbers vertices.now (committed (H.events history.now)) → unfit_at [] (H.events history.now) ≡ 0 → 65536 ≤ length bytes.old → Drawn (O.ranks order.now) (H.events history.now) bytes.old bytes.new }
     ensures later { drop 65536 bytes.new ≡ drop 65536 bytes.old }
 {
+    let drawing = Drawing::of(table, vertices, order);
     clear(bytes);
-    for done in 0..history.len() {
-        draw_event(table, vertices, order, history.event(done + 1), bytes);
+    for event in history.iter() {
+        drawing.draw_event(event, bytes);
     }
 }

@@ -1,11 +1,19 @@
 -- A graph worked out from where each vertex begins and ends.
-use Rattle.std.specs.Prelude.{ℕ, ◌<◌, min, cond, List, length, nat_lt, slice_index}
+use Rattle.std.specs.Prelude.{ℕ, ◌<◌, min, cond, List, length, map, nat_lt, slice_index}
 use Rattle.std.proofs.Common.{arith}
 use Rattle.std.proofs.lemmas.Bool.{cond_both}
 use Rattle.graph.specs.declared.Kind.TheVariants.{Start}
+use Rattle.graph.specs.declared.starts.Span.{Span}
 use Rattle.graph.specs.Kinds.{bit_of}
 use Rattle.graph.specs.Edges.{WellFormed, between}
 use Rattle.graph.specs.Graphs.{between_well}
+
+-- where the vertices of some spans begin, and where they end
+abbrev pub begins_of : List Span → List ℕ
+begins_of = map (λ (s : Span). s.begin)
+
+abbrev pub ends_of : List Span → List ℕ
+ends_of = map (λ (s : Span). s.end)
 
 -- how many vertices begin and end
 abbrev pub begun : List ℕ → List ℕ → ℕ

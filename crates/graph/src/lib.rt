@@ -1,26 +1,26 @@
 // Graphs of at most 256 vertices, whose edges have kinds: a table of bytes, one worked out from where vertices begin and end, and layers over any graphs. A vertex is a number, from 0 on.
 #![tactic(auto)]
 
-ghost use Rattle.std.specs.Prelude.{◌≡◌, ℕ, min, max};
+ghost use Rattle.std.specs.Prelude.{◌≡◌, ℕ, min, max, not, ◌&&◌, ◌==◌, nat_lt};
 ghost use Rattle.graph.specs.Edges.{WellFormed, tabled, filtered, united};
 ghost use Rattle.graph.specs.Graphs.{tabled_well, filtered_well, united_well};
 ghost use Rattle.graph.specs.Kinds.{bit_of};
 
 mod starts;
 
-pub use starts::Starts;
+pub use starts::{Span, Starts};
 
 // What an edge stands for. A set of kinds is the sum of their bits.
-#[derive(Clone, Copy)]
+#[derive(Clone, Copy, PartialEq, Eq, Debug)]
 pub enum Kind {
     // The head wrote the version next after the tail's.
-    Ww,
+    Ww = 1,
     // The head read what the tail wrote.
-    Wr,
+    Wr = 2,
     // The head wrote the version next after the one that the tail read: an anti-dependency.
-    Rw,
+    Rw = 4,
     // The tail ended before the head started.
-    Start,
+    Start = 8,
 }
 
 impl Kind {
@@ -28,12 +28,7 @@ impl Kind {
     pub fn bit(self) -> u8
         ensures { result ≡ bit_of self }
     {
-        match self {
-            Kind::Ww => 1,
-            Kind::Wr => 2,
-            Kind::Rw => 4,
-            Kind::Start => 8,
-        }
+        self as u8
     }
 }
 
@@ -55,6 +50,13 @@ pub trait Graph {
     // The set of kinds from a tail to a head; 0 where the two are equal, or one of them is no vertex.
     fn kinds(&self, tail: usize, head: usize) -> u8
         ensures { result ≡ edges self.now tail head };
+}
+
+// Whether two numbers are different vertices of so many, so that an edge may join them.
+fn may_join(vertices: usize, tail: usize, head: usize) -> bool
+    ensures { result ≡ (nat_lt tail vertices && nat_lt head vertices && not (tail == head)) }
+{
+    tail < vertices && head < vertices && tail != head
 }
 
 // Lent, a graph is the same graph.
@@ -93,14 +95,12 @@ impl<'a> Graph for Table<'a> {
     }
 
     fn kinds(&self, tail: usize, head: usize) -> u8 {
-        let size = self.size();
-        if tail < size && head < size && tail != head {
-            let at = 256 * tail + head;
-            if at < self.bytes.len() {
-                return self.bytes[at] % 16;
-            }
+        if !may_join(self.size(), tail, head) {
+            return 0;
         }
-        0
+        self.bytes
+            .get(256 * tail + head)
+            .map_or(0, |kinds| *kinds % 16)
     }
 }
 

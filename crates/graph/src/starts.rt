@@ -1,33 +1,37 @@
 // A graph worked out from where each vertex begins and ends.
-ghost use Rattle.graph.specs.Starts.{begun, starts, starts_well};
+ghost use Rattle.graph.specs.Starts.{begins_of, ends_of, begun, starts, starts_well};
 
-use super::{Graph, Kind};
+use super::{Graph, Kind, may_join};
 
-// From a tail that ended before a head began goes an edge of kind start. There are as many vertices as both lists tell of, at most 256.
+// Where a vertex begins and ends.
+#[derive(Clone, Copy, PartialEq, Eq, Default, Debug)]
+pub struct Span {
+    pub begin: u16,
+    pub end: u16,
+}
+
+// From a tail that ended before a head began goes an edge of kind start. There are as many vertices as spans, at most 256.
 #[derive(Clone, Copy)]
 pub struct Starts<'a> {
-    pub begins: &'a [u16],
-    pub ends: &'a [u16],
+    pub spans: &'a [Span],
 }
 
 impl<'a> Graph for Starts<'a> {
-    ghost vertices = { λ s. begun s.begins.now s.ends.now };
+    ghost vertices = { λ s. begun (begins_of s.spans.now) (ends_of s.spans.now) };
 
-    ghost edges = { λ s. starts s.begins.now s.ends.now };
+    ghost edges = { λ s. starts (begins_of s.spans.now) (ends_of s.spans.now) };
 
-    ghost well = { λ s. starts_well s.begins.now s.ends.now };
+    ghost well = { λ s. starts_well (begins_of s.spans.now) (ends_of s.spans.now) };
 
     fn size(&self) -> usize {
-        self.begins.len().min(self.ends.len()).min(256)
+        self.spans.len().min(256)
     }
 
     fn kinds(&self, tail: usize, head: usize) -> u8 {
-        let size = self.size();
-        if tail < size && head < size && tail != head {
-            if self.ends[tail] < self.begins[head] {
-                return Kind::Start.bit();
-            }
+        if may_join(self.size(), tail, head) && self.spans[tail].end < self.spans[head].begin {
+            Kind::Start.bit()
+        } else {
+            0
         }
-        0
     }
 }

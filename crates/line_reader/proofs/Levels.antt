@@ -1,38 +1,21 @@
 -- The bytes that a text has in common with a level's word: the whole word, or those before the byte at which none goes on.
-use Rattle.std.proofs.Common.{◌≡◌, ℕ, suc, ◌+◌, ◌<◌, ◌≤◌, max, Bool, true, false, ◌&&◌, eqb, List, [], ◌∷◌, length, get_or, take, drop, Err, refl, ap, ◌∙◌, ap₂, inl, inr, arith}
-use Rattle.std.proofs.lemmas.List.{drop_more, drop_all}
-use Rattle.std.proofs.lemmas.Bool.{cases_Bool, cond-true, cond-false, eq-eqb, ne_eqb}
+use Rattle.std.proofs.Common.{◌≡◌, ℕ, ◌+◌, max, Bool, true, false, ◌&&◌, eqb, List, [], ◌∷◌, take, Err, inl, inr, arith}
+use Rattle.std.specs.List.{common_prefix_len}
+use Rattle.std.proofs.lemmas.Bool.{cases_Bool}
 use Rattle.std.proofs.lemmas.Bool.Decides.{nat_tests}
+use Rattle.events.specs.declared.Level.{Level}
 use Rattle.events.specs.declared.Level.TheVariants.{Pl1, Pl2, Pl3, Si}
 use Rattle.lines.specs.Lines.{word}
 use Rattle.lines.specs.Grammar.{Grammar, fault_at, parse, level_part}
-use Rattle.line_reader.specs.Parts.{agree, LevelBytes}
+use Rattle.line_reader.specs.Parts.{LevelBytes}
 
--- The loop that counts the common bytes: one more, a byte that differs, the end of either.
-
-module _ (w s : List ℕ) (i : ℕ) where
-  agree_more : i < length w → i < length s → agree (drop i w) (drop i s) ≡ agree (get_or w i 0 ∷ drop (i + 1) w) (get_or s i 0 ∷ drop (i + 1) s)
-  agree_more h k = ap₂ agree (drop_more w i 0 h) (drop_more s i 0 k)
-
-  pub agree_same : i < length w → i < length s → get_or s i 0 ≡ get_or w i 0 → agree (drop i w) (drop i s) ≡ suc (agree (drop (i + 1) w) (drop (i + 1) s))
-  agree_same h k e = agree_more h k ∙ cond-true (eqb (get_or s i 0) (get_or w i 0)) _ _ (eq-eqb (get_or s i 0) (get_or w i 0) e)
-
-  pub agree_other : i < length w → i < length s → (get_or s i 0 ≡ get_or w i 0 → ⊥) → agree (drop i w) (drop i s) ≡ 0
-  agree_other h k e = agree_more h k ∙ cond-false (eqb (get_or s i 0) (get_or w i 0)) _ _ (ne_eqb (get_or s i 0) (get_or w i 0) e)
-
-  pub agree_end_word : length w ≤ i → agree (drop i w) (drop i s) ≡ 0
-  agree_end_word h = ap (λ (l : List ℕ). agree l (drop i s)) (drop_all i w h)
-
-agree_none : (w : List ℕ) → agree w [] ≡ 0
-agree_none [] = refl
-agree_none (x ∷ w) = refl
-
-pub agree_end_text : (w s : List ℕ) (i : ℕ) → length s ≤ i → agree (drop i w) (drop i s) ≡ 0
-agree_end_text w s i h = ap (agree (drop i w)) (drop_all i s h) ∙ agree_none (drop i w)
+-- how many bytes the text and a level's word have in common
+abbrev common : List ℕ → Level → ℕ
+common s l = common_prefix_len eqb (word l) s
 
 -- the most bytes that the text has in common with a level's word
 abbrev pub most : List ℕ → ℕ
-most s = max (max (max (agree (word Pl1) s) (agree (word Pl2) s)) (agree (word Pl3) s)) (agree (word Si) s)
+most s = max (max (max (common s Pl1) (common s Pl2)) (common s Pl3)) (common s Si)
 
 -- the text begins with SI, with PL- and the digit d
 abbrev is_si : ℕ → ℕ → Bool

@@ -1,66 +1,45 @@
-// Fields of a line: each borrows its part of the text and knows the column of its first byte. The readers of one field
-// answer it with the text after it, or the fault at the first byte that continues none.
-ghost use Rattle.std.specs.Prelude.{◌≡◌, ℕ, ◌+◌, ◌<◌, ◌≤◌, true, false, List, ◌∷◌, ◌++◌, length, Ok, Err, MatchOption, ◌≢◌};
+// Fields of a line. The readers of one field answer it with the part after it, or the fault at the first byte that continues none.
+ghost use Rattle.std.specs.Prelude.{◌≡◌, ℕ, ◌<◌, ◌≤◌, true, false, length, MatchOption, nat_eq, ◌≢◌};
+ghost use Rattle.std.specs.List.{common_prefix_len};
 ghost use Rattle.lines.specs.Lines.{word as level-word};
 ghost use Rattle.lines.specs.Grammar.{grows, longer, number_on, width_on, leads, level_part, version_part};
 ghost use Rattle.lines.specs.Grammar as grammar;
-ghost use Rattle.line_reader.specs.Fields.{text_of, column_of, end_of, next_of, number_of, version_of};
-ghost use Rattle.line_reader.specs.Parts.{Leading, Reads, Passes, agree, LevelBytes};
+ghost use Rattle.line_reader.specs.Fields.{end_of, number_of, version_of};
+ghost use Rattle.line_reader.specs.Parts.{Leading, Reads, LevelBytes};
 
+use crate::part::Part;
 use events::Level;
 use lines::FormFault;
 
 pub mod line;
 
-// A field of a line.
+// A field of a line: its part of the line, and what that says.
 #[derive(Clone, Copy)]
 pub enum Field<'a> {
-    Word {
-        text: &'a [u8],
-        column: usize,
-        level: Level,
-    },
-    Number {
-        text: &'a [u8],
-        column: usize,
-        value: u16,
-    },
-    Version {
-        text: &'a [u8],
-        column: usize,
-        version: (u16, u16),
-    },
+    Word(Part<'a>, Level),
+    Number(Part<'a>, u16),
+    Version(Part<'a>, (u16, u16)),
 }
 
 impl Field<'_> {
     // One past the field's last column.
     fn end(&self) -> usize
-        requires { end_of self.now < 200 }
         ensures { result ≡ end_of self.now }
     {
         match self {
-            Field::Word { text, column, .. }
-            | Field::Number { text, column, .. }
-            | Field::Version { text, column, .. } => *column + text.len(),
+            Field::Word(part, _) | Field::Number(part, _) | Field::Version(part, _) => part.end(),
         }
     }
 
-    // The column after the byte that ends the field.
-    fn next(&self) -> usize
-        requires { end_of self.now < 200 }
-        ensures { result ≡ next_of self.now }
-    {
-        self.end() + 1
-    }
-
-    // The number that the field says: the level's code for a word, 0 for a version.
+    // The number that the field says: the level's code for a word, and 0 for a version, which no reader asks. An `Option` would
+    // be taken apart by the very readers that know which field they have read; so for `version`.
     fn value(&self) -> u16
         ensures { result ≡ number_of self.now }
     {
         match self {
-            Field::Word { level, .. } => u16::from(*level),
-            Field::Number { value, .. } => *value,
-            Field::Version { .. } => 0,
+            Field::Word(_, level) => u16::from(*level),
+            Field::Number(_, value) => *value,
+            Field::Version(..) => 0,
         }
     }
 
@@ -69,7 +48,7 @@ impl Field<'_> {
         ensures { result ≡ version_of self.now }
     {
         match self {
-            Field::Version { version, .. } => *version,
+            Field::Version(_, version) => *version,
             _ => (0, 0),
         }
     }
@@ -101,16 +80,6 @@ fn number_on(value: u16, text: &[u8]) -> (u16, usize)
     (value, text.len())
 }
 
-// The text after one given byte.
-fn after(text: &[u8], mark: u8, column: usize) -> Result<&[u8], FormFault>
-    ensures { Passes mark column text.now result }
-{
-    match text {
-        [first, rest @ ..] if *first == mark => Ok(rest),
-        _ => Err(FormFault { column }),
-    }
-}
-
 // A leading number with its width in bytes.
 fn leading(text: &[u8]) -> Option<(u16, usize)>
     ensures { MatchOption result (leads text.now ≡ false) (λ p. Leading text.now p.0 p.1) }
@@ -122,61 +91,49 @@ fn leading(text: &[u8]) -> Option<(u16, usize)>
     Some((value, more + 1))
 }
 
-// The number that leads the text, with the byte that ends it, and the text after that.
-fn number(text: &[u8], mark: u8, column: usize) -> Result<(Field<'_>, &[u8]), FormFault>
-    requires { column < 100 }
-    ensures { Reads 5 mark (grammar.number mark) number_of column text.now result }
+// The number that leads the part, with the byte that ends it, and the part after that.
+fn number(part: Part<'_>, mark: u8) -> Result<(Field<'_>, Part<'_>), FormFault>
+    ensures { Reads mark (grammar.number mark) number_of part.entry result }
 {
-    let Some((value, width)) = leading(text) else {
-        return Err(FormFault { column });
+    let Some((value, width)) = leading(part.text) else {
+        return Err(part.fault());
     };
-    let (text, rest) = text.split_at(width);
-    let field = Field::Number {
-        text,
-        column,
-        value,
-    };
-    let rest = after(rest, mark, field.end())?;
-    Ok((field, rest))
+    let (digits, rest) = part.split_at(width);
+    let rest = rest.after(mark)?;
+    Ok((Field::Number(digits, value), rest))
 }
 
-// The version that leads the text, with the byte that ends it: the writer, a point and the modification.
-fn version(text: &[u8], mark: u8, column: usize) -> Result<(Field<'_>, &[u8]), FormFault>
-    requires { column < 80 }
-    ensures { Reads 11 mark (version_part mark) version_of column text.now result }
+// The version that leads the part, with the byte that ends it: the writer, a point and the modification.
+fn version(part: Part<'_>, mark: u8) -> Result<(Field<'_>, Part<'_>), FormFault>
+    ensures { Reads mark (version_part mark) version_of part.entry result }
 {
-    let (writer, rest) = number(text, b'.', column)?;
-    let (modification, rest) = number(rest, mark, writer.next())?;
-    let (text, _) = text.split_at(modification.end() - column);
-    let field = Field::Version {
-        text,
-        column,
-        version: (writer.value(), modification.value()),
-    };
-    Ok((field, rest))
+    let (writer, rest) = number(part, b'.')?;
+    let (modification, rest) = number(rest, mark)?;
+    let (both, _) = part.split_at(modification.end() - part.column);
+    let version = (writer.value(), modification.value());
+    Ok((Field::Version(both, version), rest))
 }
 
 // How many bytes the text and the word have in common, from their first on.
 fn common(text: &[u8], word: &[u8]) -> usize
-    ensures agreeing { result ≡ agree word.now text.now }
-    ensures within { (result ≤ length word.now) × (result ≤ length text.now) }
+    ensures { result ≡ common_prefix_len nat_eq word.now text.now }
 {
-    let mut n = 0;
-    while n < text.len() && n < word.len() && text[n] == word[n] {
-        n += 1;
-    }
-    n
+    word.iter()
+        .zip(text)
+        .take_while(|(letter, byte)| letter == byte)
+        .count()
 }
 
 // How many bytes the text has in common with a level's word, with the one that has the most.
 fn level_bytes(text: &[u8]) -> usize
-    ensures within { (result ≤ 4) × (result ≤ length text.now) }
+    ensures within { result ≤ length text.now }
     ensures whole_or_stop { LevelBytes text.now result }
 {
-    common(text, b"PL-1")
-        .max(common(text, b"PL-2"))
-        .max(common(text, b"PL-3"))
-        .max(common(text, b"SI"))
+    ["PL-1", "PL-2", "PL-3", "SI"]
+        .iter()
+        .map(|word| common(text, word.as_bytes()))
+        .max()
+        .unwrap_or(0)
 }
 
 // The level that a word names.
@@ -192,21 +149,14 @@ fn level_named(word: &[u8]) -> Option<Level>
     }
 }
 
-// The level's word that leads the text, with the byte that ends it.
-fn level(text: &[u8], mark: u8, column: usize) -> Result<(Field<'_>, &[u8]), FormFault>
-    requires { column < 100 }
-    ensures { Reads 4 mark (level_part mark) number_of column text.now result }
+// The level's word that leads the part, with the byte that ends it.
+fn level(part: Part<'_>, mark: u8) -> Result<(Field<'_>, Part<'_>), FormFault>
+    ensures { Reads mark (level_part mark) number_of part.entry result }
 {
-    let (word, rest) = text.split_at(level_bytes(text));
-    let end = column + word.len();
-    let Some(level) = level_named(word) else {
-        return Err(FormFault { column: end });
+    let (word, rest) = part.split_at(level_bytes(part.text));
+    let Some(level) = level_named(word.text) else {
+        return Err(rest.fault());
     };
-    let field = Field::Word {
-        text: word,
-        column,
-        level,
-    };
-    let rest = after(rest, mark, end)?;
-    Ok((field, rest))
+    let rest = rest.after(mark)?;
+    Ok((Field::Word(word, level), rest))
 }

@@ -2,5 +2,6 @@
 #![tactic(auto)]
 
 mod field;
+mod part;
 
 pub use field::line::read_line;

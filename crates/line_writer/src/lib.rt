@@ -3,55 +3,102 @@
 
 ghost use Rattle.std.specs.Prelude.{◌≡◌, ◌+◌, ◌<◌, ◌≤◌, [], ◌∷◌, ◌++◌, length, drop, decimal, MatchOption};
 ghost use Rattle.lines.specs.Lines.{code_word, line};
-ghost use Rattle.line_writer.specs.Puts.{put, bytes_of};
 
+use arrayvec::ArrayString;
 use events::{Event, Level};
+use itoa::Buffer;
 
-// The number of digits, from 1 to 5.
-fn digits(n: u16) -> usize
-    ensures { (result ≡ length (decimal n)) × (result ≤ 5) }
-{
-    if n < 10 {
-        1
-    } else if n < 100 {
-        2
-    } else if n < 1000 {
-        3
-    } else if n < 10000 {
-        4
-    } else {
-        5
+// The most bytes of a line: a read's letter, four marks with numbers of five digits, and byte 10.
+const LONGEST: usize = 26;
+
+// A line in the making: its letter and the fields so far. It is not printed by `write!`, which by its contract may always fail:
+// a line that fits is written.
+#[derive(Drop)]
+struct Line {
+    text: ArrayString<LONGEST>,
+}
+
+impl Line {
+    // A line of which the letter is there.
+    fn new(letter: char) -> Line
+        requires { letter < 128 }
+        ensures bytes { result.text.bytes ≡ letter ∷ [] }
+    {
+        let mut text = ArrayString::new();
+        text.push(letter);
+        Line { text }
+    }
+
+    // The line with one more field, after its mark.
+    fn field(mut self, mark: char, field: &str) -> Line
+        requires { (mark < 128) × (length field.now ≤ 5) × (length self.text.bytes ≤ 20) }
+        ensures bytes { result.text.bytes ≡ self.text.bytes ++ mark ∷ field.now }
+        ensures length { length result.text.bytes ≤ length self.text.bytes + 6 }
+    {
+        self.text.push(mark);
+        self.text.push_str(field);
+        self
+    }
+
+    // The line with a number for a field.
+    fn number(self, mark: char, number: u16) -> Line
+        requires { (mark < 128) × (length self.text.bytes ≤ 20) }
+        ensures bytes { result.text.bytes ≡ self.text.bytes ++ mark ∷ decimal number }
+        ensures length { length result.text.bytes ≤ length self.text.bytes + 6 }
+    {
+        self.field(mark, Buffer::new().format(number))
+    }
+
+    // The text of the line, ended by byte 10.
+    fn end(mut self) -> ArrayString<LONGEST>
+        requires { length self.text.bytes ≤ 25 }
+        ensures { result.bytes ≡ self.text.bytes ++ 10 ∷ [] }
+    {
+        self.text.push('\n');
+        self.text
     }
 }
 
 // The word of the level with this code; nothing where no level has it.
-fn level_word(code: u16) -> &'static [u8]
+fn level_word(code: u16) -> &'static str
     ensures { (result.now ≡ code_word code) × (length result.now ≤ 4) }
 {
     match Level::try_from(code) {
-        Ok(Level::Pl1) => b"PL-1",
-        Ok(Level::Pl2) => b"PL-2",
-        Ok(Level::Pl3) => b"PL-3",
-        Ok(Level::Si) => b"SI",
-        Err(_) => b"",
+        Ok(Level::Pl1) => "PL-1",
+        Ok(Level::Pl2) => "PL-2",
+        Ok(Level::Pl3) => "PL-3",
+        Ok(Level::Si) => "SI",
+        Err(_) => "",
     }
 }
 
-// How many bytes an event's line has, by its fields.
-fn bytes(event: Event) -> usize
-    ensures { result ≡ bytes_of event }
+// The line of an event, with its byte 10; nothing for the blank event, which has no line.
+#[tactic(auto, unfolding(lines::specs::Lines::line))]
+fn line_of(event: Event) -> ArrayString<LONGEST>
+    ensures { result.bytes ≡ line event }
 {
     match event {
-        Event::Blank => 0,
-        Event::Begin { transaction, level } => 4 + digits(transaction) + level_word(level).len(),
+        Event::Blank => ArrayString::new(),
+        Event::Begin { transaction, level } => Line::new('b')
+            .number(' ', transaction)
+            .field(' ', level_word(level))
+            .end(),
         Event::Read {
             transaction,
             item,
-            version,
-        } => 6 + digits(transaction) + digits(item) + digits(version.0) + digits(version.1),
-        Event::Write { transaction, item } => 4 + digits(transaction) + digits(item),
-        Event::Commit { transaction } => 3 + digits(transaction),
-        Event::Abort { transaction } => 3 + digits(transaction),
+            version: (writer, modification),
+        } => Line::new('r')
+            .number(' ', transaction)
+            .number(' ', item)
+            .number(' ', writer)
+            .number('.', modification)
+            .end(),
+        Event::Write { transaction, item } => Line::new('w')
+            .number(' ', transaction)
+            .number(' ', item)
+            .end(),
+        Event::Commit { transaction } => Line::new('c').number(' ', transaction).end(),
+        Event::Abort { transaction } => Line::new('a').number(' ', transaction).end(),
     }
 }
 
@@ -59,59 +106,7 @@ fn bytes(event: Event) -> usize
 pub fn line_length(event: Event) -> usize
     ensures { result ≡ length (line event) }
 {
-    bytes(event)
-}
-
-// Writes the digits of a number at the front, and answers how many there are.
-fn write_number(text: &mut [u8], n: u16) -> usize
-    requires { length (decimal n) ≤ length text.old }
-    ensures { (result ≡ length (decimal n)) × (text.new ≡ decimal n ++ drop (length (decimal n)) text.old) }
-{
-    if n < 10 {
-        text[0] = b'0' + n as u8;
-        1
-    } else {
-        let k = write_number(text, n / 10);
-        text[k] = b'0' + (n % 10) as u8;
-        k + 1
-    }
-}
-
-// One byte at a place; the answer is the place behind it.
-fn put_byte(text: &mut [u8], at: usize, byte: u8) -> usize
-    requires { at + 1 ≤ length text.old }
-    ensures { (result ≡ at + 1) × (text.new ≡ put at (byte ∷ []) text.old) }
-{
-    text[at] = byte;
-    at + 1
-}
-
-// Puts a byte and a number at a place, and answers the place after them.
-fn put_number(text: &mut [u8], at: usize, mark: u8, n: u16) -> usize
-    requires { at + (1 + length (decimal n)) ≤ length text.old }
-    ensures { (result ≡ at + (1 + length (decimal n))) × (text.new ≡ put at (mark ∷ decimal n) text.old) }
-{
-    text[at] = mark;
-    at + 1 + write_number(&mut text[at + 1..], n)
-}
-
-// Puts a word at a place, and answers the place after it.
-fn put_word(text: &mut [u8], at: usize, word: &[u8]) -> usize
-    requires { at + length word.now ≤ length text.old }
-    ensures { (result ≡ at + length word.now) × (text.new ≡ put at word.now text.old) }
-{
-    let end = at + word.len();
-    text[at..end].copy_from_slice(word);
-    end
-}
-
-// Puts the letter, a space and the transaction's number at the front, and answers the place after them.
-fn put_head(text: &mut [u8], letter: u8, transaction: u16) -> usize
-    requires { 2 + length (decimal transaction) ≤ length text.old }
-    ensures { (result ≡ 2 + length (decimal transaction)) × (text.new ≡ put 0 (letter ∷ 32 ∷ decimal transaction) text.old) }
-{
-    let at = put_byte(text, 0, letter);
-    put_number(text, at, b' ', transaction)
+    line_of(event).len()
 }
 
 // Writes an event's line at the front of the text, and answers how many bytes it has; the other bytes stay. Where the line does
@@ -119,40 +114,10 @@ fn put_head(text: &mut [u8], letter: u8, transaction: u16) -> usize
 pub fn write_line(text: &mut [u8], event: Event) -> Option<usize>
     ensures { MatchOption result ((length text.old < length (line event)) × (text.new ≡ text.old)) (λ n. (n ≡ length (line event)) × (n ≤ length text.old) × (text.new ≡ line event ++ drop n text.old)) }
 {
-    if text.len() < bytes(event) {
+    let line = line_of(event);
+    if text.len() < line.len() {
         return None;
     }
-    match event {
-        Event::Blank => Some(0),
-        Event::Begin { transaction, level } => {
-            let at = put_head(text, b'b', transaction);
-            let at = put_byte(text, at, b' ');
-            let at = put_word(text, at, level_word(level));
-            Some(put_byte(text, at, b'\n'))
-        }
-        Event::Read {
-            transaction,
-            item,
-            version,
-        } => {
-            let at = put_head(text, b'r', transaction);
-            let at = put_number(text, at, b' ', item);
-            let at = put_number(text, at, b' ', version.0);
-            let at = put_number(text, at, b'.', version.1);
-            Some(put_byte(text, at, b'\n'))
-        }
-        Event::Write { transaction, item } => {
-            let at = put_head(text, b'w', transaction);
-            let at = put_number(text, at, b' ', item);
-            Some(put_byte(text, at, b'\n'))
-        }
-        Event::Commit { transaction } => {
-            let at = put_head(text, b'c', transaction);
-            Some(put_byte(text, at, b'\n'))
-        }
-        Event::Abort { transaction } => {
-            let at = put_head(text, b'a', transaction);
-            Some(put_byte(text, at, b'\n'))
-        }
-    }
+    text[..line.len()].copy_from_slice(line.as_str().as_bytes());
+    Some(line.len())
 }

@@ -5,3 +5,4 @@ pub mod Known
 pub mod Faults
 pub mod Listings
 pub mod Steps
+pub mod Lengths

@@ -1,6 +1,6 @@
 -- Numbers in a text: the reading takes the digits of one number, and a line with that text has no other number there.
 use Rattle.std.proofs.Common.{◌≡◌, ℕ, suc, ◌+◌, ◌-◌, ◌/◌, ◌%◌, ◌^◌, ◌<◌, ◌≤◌, Bool, true, false, cond, List, [], ◌∷◌, ◌++◌, length, take, drop, decimal, sym, refl, ap, ◌∙◌, subst, append_assoc, append-nil, arith}
-use Rattle.std.proofs.lemmas.Fmt.{decimal_digit, decimal_step, decimal_by_steps, decimal_injective, length-decimal-le, decimal_nonempty}
+use Rattle.std.proofs.lemmas.Fmt.{decimal_digit, decimal_step, decimal_by_steps, decimal_injective, decimal_nonempty}
 use Rattle.std.proofs.lemmas.List.{length-take-le, same_from_push, length-append, take-append-drop}
 use Rattle.std.proofs.lemmas.Bool.Decides.{nat_tests}
 use Rattle.lines.specs.Grammar.{digit, longer, grows, number_on, width_on, leads, leader, width}
@@ -180,11 +180,6 @@ module _ (v n : ℕ) (s : List ℕ) (r : Taken v n s) where
 
   pub taken_length : length (decimal v) ≡ n
   taken_length = sym (ap length r.text) ∙ length-take-le n s r.inside
-
-  pub taken_short : n ≤ 5
-  taken_short =
-      let h = r.small in
-      omega (arith, taken_length, length-decimal-le 5 v (omega arith) (omega arith) (omega arith))
 
 -- the text begins with the digits of v before a byte that is none: the reading takes just these
 pub record Found (v : ℕ) (t s : List ℕ) : Type 0 where

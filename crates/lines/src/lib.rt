@@ -5,7 +5,7 @@ ghost use Rattle.lines.specs.Laws.{LinesDiffer, FaultOnce};
 ghost use Rattle.lines.specs.Known.{ColumnsKnown};
 
 // A text that begins with none of the five forms: the column, from 1, of the first byte that continues none.
-#[derive(Clone, Copy, PartialEq, Debug)]
+#[derive(Clone, Copy, PartialEq, Eq, Debug)]
 pub struct FormFault {
     pub column: usize,
 }

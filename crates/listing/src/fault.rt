@@ -9,7 +9,7 @@ use transactions::Unfit;
 mod answers;
 
 // The part that meets a fault.
-#[derive(Clone, Copy)]
+#[derive(Clone, Copy, PartialEq, Eq, Debug)]
 pub enum Layer {
     Listing,
     Recorder,
@@ -17,12 +17,13 @@ pub enum Layer {
 }
 
 // Why a line is not recorded: it is none of the five forms, or its event is refused.
-#[derive(Clone, Copy)]
+#[derive(Clone, Copy, PartialEq, Eq, Debug)]
 pub enum LineFault {
     Form(FormFault),
     Refused(Refusal),
 }
 
+// By hand, since a derived `From` says nothing of what it makes; so for the next.
 impl From<FormFault> for LineFault {
     ghost from_gives = { λ fault r. r ≡ Form fault };
 
@@ -40,14 +41,14 @@ impl From<Refusal> for LineFault {
 }
 
 // The first fault of a text: its line, from 1, and why that line is not recorded.
-#[derive(Clone, Copy)]
+#[derive(Clone, Copy, PartialEq, Eq, Debug)]
 pub struct Fault {
     pub line: usize,
     pub why: LineFault,
 }
 
 // Why a history is not written: some event does not fit after those before it, or the text is too short.
-#[derive(Clone, Copy)]
+#[derive(Clone, Copy, PartialEq, Eq, Debug)]
 pub enum WriteFault {
     NotFit(Unfit),
     TooShort,

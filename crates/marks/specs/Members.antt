@@ -1,14 +1,11 @@
 -- Which marks are set.
-use Rattle.std.specs.Prelude.{◌≡◌, ℕ, ◌/◌, ◌%◌, ◌^◌, ◌<◌, Bool, true, false, ◌&&◌, List, [], ◌==◌, nat_lt, slice_index}
+use Rattle.std.specs.Prelude.{◌≡◌, ℕ, ◌/◌, ◌%◌, ◌<◌, Bool, true, false, ◌&&◌, List, [], ◌==◌, nat_lt, slice_index}
+use Rattle.std.specs.Int.{bit_at}
 use Rattle.marks.specs.declared.Marks.{Marks}
-
--- bit k of a word, 0 or 1
-abbrev pub bit : ℕ → ℕ → ℕ
-bit word k = word / 2 ^ k % 2
 
 -- bit k of a list of words of 64 bits is 1
 abbrev pub member : List ℕ → ℕ → Bool
-member words k = bit (slice_index words (k / 64)) (k % 64) == 1
+member words k = bit_at (slice_index words (k / 64)) (k % 64) == 1
 
 -- mark k is set: there are 256 marks
 unfoldable pub marked : Marks → ℕ → Bool

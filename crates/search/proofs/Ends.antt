@@ -1,5 +1,5 @@
 -- How a search ends: with all vertices placed, which is the order, or with a closed walk.
-use Rattle.std.proofs.Common.{◌≡◌, ℕ, ◌≤◌, Bool, true, false, ltb, List, [], ◌∷◌, ◌++◌, length, take, sym, ap, ◌∙◌, subst, arith}
+use Rattle.std.proofs.Common.{◌≡◌, ℕ, ◌≤◌, Bool, true, false, ltb, List, [], ◌∷◌, ◌++◌, length, sym, ap, ◌∙◌, subst, arith}
 use mathlib.Core.Path.{fun_ext}
 use Rattle.std.proofs.lemmas.List.{append-nil}
 use Rattle.std.proofs.lemmas.Bool.{and_parts, and_from, both_ways, lt-ltb, le-leb, eqb-true, false≢true}
@@ -35,17 +35,17 @@ module _ {n : ℕ} {edges : ℕ → ℕ → ℕ} (well : WellFormed n edges) whe
       absurd (both_ways (joined edges w w) (ap (λ (x : ℕ). ltb 0 x) (well.different w)) j)
   two_at_least (w ∷ x ∷ ws) c = omega arith
 
-  module _ {size : ℕ} {was tails : List Marks} {k : ℕ} {unplaced : ℕ → Bool} {found : List ℕ}
-      (all : size ≡ n) (same : (t h : ℕ) → tail was t h ≡ joined edges t h) (p : Placed size was tails k unplaced found) where
+  module _ {size : ℕ} {was tails : List Marks} {placed : List ℕ} {unplaced : ℕ → Bool}
+      (all : size ≡ n) (same : (t h : ℕ) → tail was t h ≡ joined edges t h) (p : Placed size was tails placed unplaced) where
     -- ---- nothing is left
 
-    pub is_order_lem : ((v : ℕ) → unplaced v ≡ false) → (vs : List ℕ) → vs ≡ take k found → (k ≡ n) × IsOrder n (joined edges) vs
+    pub is_order_lem : ((v : ℕ) → unplaced v ≡ false) → (vs : List ℕ) → vs ≡ placed → (length placed ≡ n) × IsOrder n (joined edges) vs
     is_order_lem out vs e =
         let none : none size unplaced ≡ true = none_from size unplaced (λ v h. out v) in
-        let placed : order size (tail was) (take k found ++ []) ≡ true = p.front [] none in
+        let whole_list : order size (tail was) (placed ++ []) ≡ true = p.front [] none in
         let front : order n (tail was) vs ≡ true =
         subst (λ (m : ℕ). order m (tail was) vs ≡ true) all
-        (subst (λ (xs : List ℕ). order size (tail was) xs ≡ true) (append-nil (take k found) ∙ sym e) placed)
+        (subst (λ (xs : List ℕ). order size (tail was) xs ≡ true) (append-nil placed ∙ sym e) whole_list)
         in
         let least : order n (joined edges) vs ≡ true = subst (λ (j : ℕ → ℕ → Bool). order n j vs ≡ true) (fun_ext (λ t. fun_ext (same t))) front in
         let whole = order_keeps_edges n (joined edges) vs least in (
@@ -67,9 +67,10 @@ module _ {n : ℕ} {edges : ℕ → ℕ → ℕ} (well : WellFormed n edges) whe
         let j = sym (same t h) ∙ (and_parts (unplaced t) _ (sym (p.kept t h) ∙ kept)).1 in
         and_from _ _ (lt-ltb t n (joined_tail well t h j)) (and_from _ _ (lt-ltb h n (joined_head well t h j)) j)
 
-    pub is_walk_lem : (count : ℕ) (us ws : List ℕ) → us ≡ ws → length us ≡ count → count ≤ 256 → closed 256 (tail tails) ws ≡ true → distinct ws ≡ true
-        → (2 ≤ count) × IsWalk n (joined edges) us
-    is_walk_lem count us ws e long few c d =
+    pub is_walk_lem : (us ws : List ℕ) → us ≡ ws → length ws ≤ 256 → closed 256 (tail tails) ws ≡ true → distinct ws ≡ true
+        → (2 ≤ length ws) × IsWalk n (joined edges) us
+    is_walk_lem us ws e few c d =
+        let long : length us ≡ length ws = ap length e in
         let round : closed n (joined edges) us ≡ true =
         closed_in 256 n (tail tails) (joined edges) still_edge us (subst (λ (xs : List ℕ). closed 256 (tail tails) xs ≡ true) (sym e) c)
         in
@@ -82,7 +83,11 @@ module _ {n : ℕ} {edges : ℕ → ℕ → ℕ} (well : WellFormed n edges) whe
           },
         )
 
+-- what is known of the tails of one list is known of the same under another name
+pub same_tails : {tails lent : List Marks} {e : ℕ → ℕ → Bool} → lent ≡ tails → ((t h : ℕ) → tail tails t h ≡ e t h) → (t h : ℕ) → tail lent t h ≡ e t h
+same_tails is same t h = ap (λ (xs : List Marks). tail xs t h) is ∙ same t h
+
 -- an unplaced vertex has a tail, and that is unplaced too
-pub goes_on : {n : ℕ} {was tails : List Marks} {k : ℕ} {unplaced : ℕ → Bool} {found : List ℕ} → Placed n was tails k unplaced found
+pub goes_on : {n : ℕ} {was tails : List Marks} {placed : List ℕ} {unplaced : ℕ → Bool} → Placed n was tails placed unplaced
     → (t h : ℕ) → tail tails t h ≡ true → tailless tails t ≡ false
 goes_on p t h e = p.stuck t (and_parts _ _ (sym (p.kept t h) ∙ e)).0

@@ -1,7 +1,7 @@
 -- Vertices placed one after the other: what is known between two of them, and that one more keeps it.
-use Rattle.std.proofs.Common.{◌≡◌, ℕ, suc, ◌+◌, ◌<◌, ◌≤◌, Bool, true, false, not, ◌&&◌, ◌||◌, eqb, ltb, List, [], ◌∷◌, ◌++◌, length, take, set, sym, ap, ◌∙◌, subst, inl, inr, arith}
+use Rattle.std.proofs.Common.{◌≡◌, ℕ, suc, ◌+◌, ◌<◌, ◌≤◌, Bool, true, false, not, ◌&&◌, ◌||◌, eqb, ltb, List, [], ◌∷◌, ◌++◌, length, sym, ap, ◌∙◌, subst, inl, inr, arith}
 use mathlib.Core.Path.{fun_ext}
-use Rattle.std.proofs.lemmas.List.{append_assoc, take_more_set, length-set}
+use Rattle.std.proofs.lemmas.List.{append_assoc, length-append}
 use Rattle.std.proofs.lemmas.Bool.{cases_eq, cases_Bool, and_parts, and_from, both_ways, ltb-true}
 use Rattle.std.proofs.lemmas.Bool.Decides.{nat_tests}
 use Rattle.marks.specs.declared.Marks.{Marks}
@@ -14,21 +14,20 @@ use Rattle.search.proofs.Sets.{none_from, none_at, none_wider, count_without, co
 use Rattle.search.proofs.Orders.{Vertices, vertices_without}
 use Rattle.search.proofs.Tails.{empty_some}
 
--- k vertices are placed, and the marks of the ready ones are right
-pub record Placing (n : ℕ) (was tails : List Marks) (k : ℕ) (unplaced free : ℕ → Bool) (found : List ℕ) : Type 0 where
-  pub front : (vs : List ℕ) → places n (tail was) unplaced vs ≡ true → order n (tail was) (take k found ++ vs) ≡ true
-  pub total : k + count n unplaced ≡ n
+-- these vertices are placed, and the marks of the ready ones are right
+pub record Placing (n : ℕ) (was tails : List Marks) (placed : List ℕ) (unplaced free : ℕ → Bool) : Type 0 where
+  pub front : (vs : List ℕ) → places n (tail was) unplaced vs ≡ true → order n (tail was) (placed ++ vs) ≡ true
+  pub total : length placed + count n unplaced ≡ n
   pub kept : (t h : ℕ) → tail tails t h ≡ (unplaced t && tail was t h)
   pub heads : (t h : ℕ) → tail tails t h ≡ true → unplaced h ≡ true
   pub inside : Vertices n unplaced
   pub known : (h : ℕ) → free h ≡ (unplaced h && tailless tails h)
-  pub long : length found ≡ 256
 
 -- nothing is placed yet
-pub placing_none : (n : ℕ) → n ≤ 256 → (tails : List Marks) (unplaced free : ℕ → Bool) (found : List ℕ) → Within n tails → length found ≡ 256
+pub placing_none : (n : ℕ) → n ≤ 256 → (tails : List Marks) (unplaced free : ℕ → Bool) → Within n tails
     → ((h : ℕ) → unplaced h ≡ (ltb h n && ltb h 256)) → ((h : ℕ) → free h ≡ (ltb h n && tailless tails h))
-    → Placing n tails tails 0 unplaced free found
-placing_none n few tails unplaced free found within long all none =
+    → Placing n tails tails [] unplaced free
+placing_none n few tails unplaced free within all none =
     let below : (h : ℕ) → unplaced h ≡ ltb h n = λ h. all h ∙ grind (arith, nat_tests) in
     record {
       front = λ vs q. subst (λ (s : ℕ → Bool). places n (tail tails) s vs ≡ true) (fun_ext below) q;
@@ -39,11 +38,9 @@ placing_none n few tails unplaced free found within long all none =
       heads = λ t h e. let b = below h in let l = (within t h e).1 in grind (arith, nat_tests);
       inside = λ h e. ltb-true h n (sym (below h) ∙ e);
       known = λ h. let b = below h in let f = none h in grind (arith, nat_tests);
-      long = long;
     }
 
-module _ {n : ℕ} {was tails : List Marks} {k : ℕ} {unplaced free : ℕ → Bool} {found : List ℕ}
-    (few : n ≤ 256) (p : Placing n was tails k unplaced free found) where
+module _ {n : ℕ} {was tails : List Marks} {placed : List ℕ} {unplaced free : ℕ → Bool} (few : n ≤ 256) (p : Placing n was tails placed unplaced free) where
   -- the marks say which vertices are ready
   ready_is : (h : ℕ) → free h ≡ ready n (tail was) unplaced h
   ready_is h =
@@ -52,8 +49,8 @@ module _ {n : ℕ} {was tails : List Marks} {k : ℕ} {unplaced free : ℕ → B
       p.known h ∙ ap (λ (b : Bool). unplaced h && b) (same ∙ narrow)
 
   -- where none is marked, none is ready
-  pub placed : ((h : ℕ) → free h ≡ false) → Placed n was tails k unplaced found
-  placed none = record {
+  pub all_placed : ((h : ℕ) → free h ≡ false) → Placed n was tails placed unplaced
+  all_placed none = record {
     front = p.front;
     total = p.total;
     kept = p.kept;
@@ -72,8 +69,8 @@ module _ {n : ℕ} {was tails : List Marks} {k : ℕ} {unplaced free : ℕ → B
           | inr e ↦ e
         ]
 
-    -- the array is not full yet
-    pub room : k < 256
+    -- there is room for one more
+    pub room : length placed < 256
     room = omega (arith, p.total, count_without n unplaced v here (p.inside v here), count_le n unplaced)
 
     is_next : next n (tail was) unplaced v ≡ true
@@ -82,31 +79,20 @@ module _ {n : ℕ} {was tails : List Marks} {k : ℕ} {unplaced free : ℕ → B
     -- v is taken out of the unplaced vertices, the ready ones and all tails, and the heads that have no tail left are ready
     module _ (unplaced' rest free' : ℕ → Bool) (tails' : List Marks)
         (gone : (h : ℕ) → unplaced' h ≡ without v unplaced h) (taken : (h : ℕ) → rest h ≡ without v free h)
-        (lost : (t h : ℕ) → tail tails' t h ≡ (tail tails t h && not (ltb h n && eqb t v)))
-        (freed : (h : ℕ) → free' h ≡ (rest h || (ltb h n && (tail tails v h && tailless tails' h)))) where
-      front_more : (vs : List ℕ) → places n (tail was) unplaced' vs ≡ true → order n (tail was) (take (k + 1) (set found k v) ++ vs) ≡ true
+        (lost : (t h : ℕ) → tail tails' t h ≡ (tail tails t h && not (eqb t v)))
+        (freed : (h : ℕ) → free' h ≡ (rest h || (tail tails v h && tailless tails' h))) where
+      front_more : (vs : List ℕ) → places n (tail was) unplaced' vs ≡ true → order n (tail was) (placed ++ v ∷ [] ++ vs) ≡ true
       front_more vs q =
           let r : places n (tail was) (without v unplaced) vs ≡ true = subst (λ (s : ℕ → Bool). places n (tail was) s vs ≡ true) (fun_ext gone) q in
-          let list : take (k + 1) (set found k v) ++ vs ≡ take k found ++ (v ∷ vs) =
-          ap (λ (xs : List ℕ). xs ++ vs) (take_more_set found k v (omega (arith, room, p.long))) ∙ append_assoc (take k found) (v ∷ []) vs
-          in
-          subst (λ (xs : List ℕ). order n (tail was) xs ≡ true) (sym list) (p.front (v ∷ vs) (and_from (next n (tail was) unplaced v) _ is_next r))
-
-      -- heads are vertices, so v is lost from each of them
-      lost_all : (t h : ℕ) → tail tails' t h ≡ (tail tails t h && not (eqb t v))
-      lost_all t h =
-          let l = lost t h in
-          elim (cases_Bool (tail tails t h)) [
-            | inl e ↦ let b = p.inside h (p.heads t h e) in grind (arith, nat_tests)
-            | inr e ↦ grind (arith, nat_tests)
-          ]
+          subst (λ (xs : List ℕ). order n (tail was) xs ≡ true) (sym (append_assoc placed (v ∷ []) vs))
+          (p.front (v ∷ vs) (and_from (next n (tail was) unplaced v) _ is_next r))
 
       kept_more : (t h : ℕ) → tail tails' t h ≡ (unplaced' t && tail was t h)
-      kept_more t h = let l = lost_all t h in let a = p.kept t h in let b = gone t in grind (arith, nat_tests)
+      kept_more t h = let l = lost t h in let a = p.kept t h in let b = gone t in grind (arith, nat_tests)
 
       heads_still : (t h : ℕ) → tail tails' t h ≡ true → unplaced' h ≡ true
       heads_still t h e =
-          let l = (and_parts (tail tails t h) _ (sym (lost_all t h) ∙ e)).0 in
+          let l = (and_parts (tail tails t h) _ (sym (lost t h) ∙ e)).0 in
           let u = p.heads t h l in
           let g = gone h in
           elim (cases_eq h v) [
@@ -131,7 +117,7 @@ module _ {n : ℕ} {was tails : List Marks} {k : ℕ} {unplaced free : ℕ → B
                       grind (arith, nat_tests)
                   | inr e ↦
                       let same : tailless tails' h ≡ tailless tails h =
-                      ap (none 256) (fun_ext (λ t. lost_all t h ∙ elim (cases_eq t v) [
+                      ap (none 256) (fun_ext (λ t. lost t h ∙ elim (cases_eq t v) [
                         | inl y ↦ let z : tail tails t h ≡ false = ap (λ (u : ℕ). tail tails u h) y ∙ e in grind (arith, nat_tests)
                         | inr y ↦ grind (arith, nat_tests)
                       ]))
@@ -140,21 +126,20 @@ module _ {n : ℕ} {was tails : List Marks} {k : ℕ} {unplaced free : ℕ → B
                 ]
           ]
 
-      pub placing_more : Placing n was tails' (k + 1) unplaced' free' (set found k v)
+      pub placing_more : Placing n was tails' (placed ++ v ∷ []) unplaced' free'
       placing_more = record {
         front = front_more;
         total =
             let fewer : count n unplaced ≡ suc (count n unplaced') =
             count_without n unplaced v here (p.inside v here) ∙ ap (λ (s : ℕ → Bool). suc (count n s)) (sym (fun_ext gone))
             in
-            omega (arith, p.total);
+            omega (arith, p.total, length-append placed (v ∷ []));
         kept = kept_more;
         heads = heads_still;
         inside = λ h e. vertices_without n v unplaced p.inside h (sym (gone h) ∙ e);
         known = known_more;
-        long = length-set found k v ∙ p.long;
       }
 
       -- the measure falls
       pub fewer_left : count n unplaced' < count n unplaced
-      fewer_left = omega (arith, p.total, placing_more.total)
+      fewer_left = omega (arith, p.total, placing_more.total, length-append placed (v ∷ []))

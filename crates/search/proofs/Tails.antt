@@ -1,6 +1,7 @@
 -- The sets of tails, one changed at a time, and the tails that a graph has.
-use Rattle.std.proofs.Common.{◌≡◌, ℕ, ◌+◌, ◌<◌, ◌≤◌, Bool, true, false, cond, not, ◌&&◌, ◌||◌, eqb, ltb, List, length, set, replicate, is_some, Some, None, Option, sym, ap, ◌∙◌, inl, inr, arith, MatchOption}
-use Rattle.std.proofs.lemmas.List.{get_or-set_same, get_or-set_other, get_or_past, get_or-replicate, length-replicate}
+use Rattle.std.proofs.Common.{◌≡◌, ℕ, ◌+◌, ◌<◌, ◌≤◌, Bool, true, false, cond, not, ◌&&◌, ◌||◌, eqb, ltb, List, [], ◌∷◌, ◌++◌, length, get_or, set, is_some, Some, None, Option, sym, ap, ◌∙◌, inl, inr, arith, MatchOption}
+use Rattle.std.proofs.lemmas.List.{get_or-set_same, get_or-set_other, get_or_past, get_or_append_left, length-append}
+use Rattle.std.proofs.Math.Seq.{get_or-append_seam}
 use Rattle.std.proofs.lemmas.Bool.{cases_eq, cases_lt, cases_Bool, both_ways}
 use Rattle.std.proofs.lemmas.Bool.Decides.{nat_tests}
 use Rattle.marks.specs.declared.Marks.{Marks}
@@ -22,6 +23,20 @@ empty_some m k t = some_from 256 (marked m) k (marked_below m k t) t
 pub empty_lowest : (m : Marks) (o : Option ℕ) (b : Bool) → MatchOption o ((k : ℕ) → marked m k ≡ false) (Least (marked m)) → is_some o ≡ not b → b ≡ empty m
 empty_lowest m None b out e = let none = empty_none m out in grind (arith, nat_tests)
 empty_lowest m (Some k) b low e = let some = empty_some m k low.0 in grind (arith, nat_tests)
+
+-- ---- past the end there is no set, and no tail
+
+pub tail_past : (tails : List Marks) (t h : ℕ) → length tails ≤ h → tail tails t h ≡ false
+tail_past tails t h l = ap (λ (x : Marks). marked x t) (get_or_past tails h unmarked l) ∙ unmarked_none t
+
+pub tail_head : (tails : List Marks) (t h : ℕ) → tail tails t h ≡ true → h < length tails
+tail_head tails t h e = elim (cases_lt h (length tails)) [ inl l ↦ l | inr l ↦ absurd (both_ways (tail tails t h) (tail_past tails t h l) e) ]
+
+pub head_within : (tails : List Marks) (h : ℕ) → tailless tails h ≡ false → h < length tails
+head_within tails h some = elim (cases_lt h (length tails)) [
+  | inl l ↦ l
+  | inr l ↦ absurd (both_ways (tailless tails h) some (none_from 256 (λ t. tail tails t h) (λ t b. tail_past tails t h l)))
+]
 
 -- ---- one set changed
 
@@ -54,80 +69,38 @@ module _ {n : ℕ} {edges : ℕ → ℕ → ℕ} (well : WellFormed n edges) whe
   joined_head t h j =
       elim (cases_lt h n) [ inl l ↦ l | inr l ↦ absurd (both_ways (joined edges t h) (ap (λ (x : ℕ). ltb 0 x) (well.heads t h l)) j) ]
 
-  -- one head more has the tail v
-  pub tail_more : (tails : List Marks) (m : Marks) (i v : ℕ) → i < length tails → 0 < edges v i
-      → ((t : ℕ) → marked m t ≡ (tail tails t i || (eqb t v && ltb v 256)))
-      → (t h : ℕ) → tail (set tails i m) t h ≡ (tail tails t h || (eqb h i && (eqb t v && joined edges t h)))
-  tail_more tails m i v l j put t h =
-      let rows = tail_set tails i m l t h in
-      let here = put t in
+  -- no head yet
+  pub tails_none : (t h : ℕ) → tail [] t h ≡ (ltb h 0 && joined edges t h)
+  tails_none t h = let none = tail_past [] t h (omega arith) in grind (arith, nat_tests)
+
+  -- one head more
+  pub tails_more : (tails : List Marks) (m : Marks) (i : ℕ) → length tails ≡ i → ((t h : ℕ) → tail tails t h ≡ (ltb h i && joined edges t h))
+      → ((t : ℕ) → marked m t ≡ joined edges t i) → (t h : ℕ) → tail (tails ++ m ∷ []) t h ≡ (ltb h (i + 1) && joined edges t h)
+  tails_more tails m i long inv put t h =
       elim (cases_eq h i) [
         | inl e ↦
-            elim (cases_eq t v) [
-              | inl f ↦
-                  let k : joined edges t h ≡ true = ap (λ (x : ℕ). joined edges x h) f ∙ ap (joined edges v) e ∙ grind (arith, nat_tests) in
-                  let few = well.few in
-                  let b = joined_tail t h k in
+            let last : tail (tails ++ m ∷ []) t h ≡ joined edges t h =
+            ap (λ (k : ℕ). marked (get_or (tails ++ m ∷ []) k unmarked) t) (e ∙ sym long) ∙ ap (λ (x : Marks). marked x t) (get_or-append_seam tails m [] unmarked)
+            ∙ put t ∙ ap (joined edges t) (sym e)
+            in
+            grind (arith, nat_tests)
+        | inr n ↦
+            elim (cases_lt h i) [
+              | inl l ↦
+                  let same : tail (tails ++ m ∷ []) t h ≡ tail tails t h = ap (λ (x : Marks). marked x t) (get_or_append_left tails (m ∷ []) unmarked h (omega arith)) in
+                  let was = inv t h in
                   grind (arith, nat_tests)
-              | inr f ↦ let same : tail tails t h ≡ tail tails t i = ap (tail tails t) e in grind (arith, nat_tests)
+              | inr l ↦ let none = tail_past (tails ++ m ∷ []) t h (omega (arith, length-append tails (m ∷ []))) in grind (arith, nat_tests)
             ]
-        | inr e ↦ grind (arith, nat_tests)
       ]
-
-  -- the same, where there is no such edge
-  pub tail_same : (tails : List Marks) (i v : ℕ) → edges v i ≡ 0 → (t h : ℕ) → tail tails t h ≡ (tail tails t h || (eqb h i && (eqb t v && joined edges t h)))
-  tail_same tails i v j t h =
-      let none : joined edges v i ≡ false = ap (λ (x : ℕ). ltb 0 x) j in
-      elim (cases_eq h i) [
-        | inl e ↦
-            elim (cases_eq t v) [
-              | inl f ↦ let k : joined edges t h ≡ false = ap (λ (x : ℕ). joined edges x h) f ∙ ap (joined edges v) e ∙ none in grind (arith, nat_tests)
-              | inr f ↦ grind (arith, nat_tests)
-            ]
-        | inr e ↦ grind (arith, nat_tests)
-      ]
-
-  pub heads_more : (start tails tails' : List Marks) (i v : ℕ)
-      → ((t h : ℕ) → tail tails t h ≡ (tail start t h || (ltb h i && (eqb t v && joined edges t h))))
-      → ((t h : ℕ) → tail tails' t h ≡ (tail tails t h || (eqb h i && (eqb t v && joined edges t h))))
-      → (t h : ℕ) → tail tails' t h ≡ (tail start t h || (ltb h (i + 1) && (eqb t v && joined edges t h)))
-  heads_more start tails tails' i v inv more t h = let a = inv t h in let b = more t h in grind (arith, nat_tests)
 
   -- all heads
-  pub heads_all : (start tails : List Marks) (i v : ℕ) → n ≤ i
-      → ((t h : ℕ) → tail tails t h ≡ (tail start t h || (ltb h i && (eqb t v && joined edges t h))))
-      → (t h : ℕ) → tail tails t h ≡ (tail start t h || (eqb t v && joined edges t h))
-  heads_all start tails i v l inv t h =
-      let a = inv t h in
-      elim (cases_Bool (joined edges t h)) [
-        | inl j ↦ let k = joined_head t h j in grind (arith, nat_tests)
-        | inr j ↦ grind (arith, nat_tests)
-      ]
-
-  -- no tail yet: the sets are empty
-  pub tails_none : (k : ℕ) (m : Marks) → ((i : ℕ) → marked m i ≡ false) → (t h : ℕ) → tail (replicate k m) t h ≡ (ltb t 0 && joined edges t h)
-  tails_none k m out t h =
-      let none : tail (replicate k m) t h ≡ false =
-      elim (cases_lt h k) [
-        | inl l ↦ ap (λ (x : Marks). marked x t) (get_or-replicate k h m unmarked l) ∙ out t
-        | inr l ↦ ap (λ (x : Marks). marked x t) (get_or_past (replicate k m) h unmarked (omega (arith, length-replicate k m))) ∙ unmarked_none t
-      ]
-      in
-      grind (arith, nat_tests)
-
-  -- one tail more, for all heads
-  pub tails_more : (tails tails' : List Marks) (v : ℕ) → ((t h : ℕ) → tail tails t h ≡ (ltb t v && joined edges t h))
-      → ((t h : ℕ) → tail tails' t h ≡ (tail tails t h || (eqb t v && joined edges t h)))
-      → (t h : ℕ) → tail tails' t h ≡ (ltb t (v + 1) && joined edges t h)
-  tails_more tails tails' v inv more t h = let a = inv t h in let b = more t h in grind (arith, nat_tests)
-
-  -- all tails
-  pub tails_all : (tails : List Marks) (v : ℕ) → n ≤ v → ((t h : ℕ) → tail tails t h ≡ (ltb t v && joined edges t h))
+  pub tails_all : (tails : List Marks) (i : ℕ) → n ≤ i → ((t h : ℕ) → tail tails t h ≡ (ltb h i && joined edges t h))
       → (t h : ℕ) → tail tails t h ≡ joined edges t h
-  tails_all tails v l inv t h =
+  tails_all tails i l inv t h =
       let a = inv t h in
       elim (cases_Bool (joined edges t h)) [
-        | inl j ↦ let k = joined_tail t h j in grind (arith, nat_tests)
+        | inl j ↦ let few = joined_head t h j in grind (arith, nat_tests)
         | inr j ↦ grind (arith, nat_tests)
       ]
 
@@ -163,3 +136,24 @@ module _ (start tails : List Marks) (m : Marks) (i v : ℕ) (here : i < length t
             grind (arith, nat_tests)
         | inr x ↦ let c = tailless_same tails i m h x in grind (arith, nat_tests)
       ]
+
+-- a vertex is lost from every head once it is from those that there are
+pub lost_all : (start tails : List Marks) (i v : ℕ) → length start ≤ i
+    → ((t h : ℕ) → tail tails t h ≡ (tail start t h && not (ltb h i && eqb t v)))
+    → (t h : ℕ) → tail tails t h ≡ (tail start t h && not (eqb t v))
+lost_all start tails i v l inv t h =
+    let a = inv t h in
+    elim (cases_Bool (tail start t h)) [
+      | inl e ↦ let b = tail_head start t h e in grind (arith, nat_tests)
+      | inr e ↦ grind (arith, nat_tests)
+    ]
+
+pub freed_all : (start tails : List Marks) (i v : ℕ) (was ready : ℕ → Bool) → length start ≤ i
+    → ((h : ℕ) → ready h ≡ (was h || (ltb h i && (tail start v h && tailless tails h))))
+    → (h : ℕ) → ready h ≡ (was h || (tail start v h && tailless tails h))
+freed_all start tails i v was ready l inv h =
+    let a = inv h in
+    elim (cases_Bool (tail start v h)) [
+      | inl e ↦ let b = tail_head start v h e in grind (arith, nat_tests)
+      | inr e ↦ grind (arith, nat_tests)
+    ]

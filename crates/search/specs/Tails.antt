@@ -1,5 +1,5 @@
 -- What the search keeps: for each head the set of its unplaced tails.
-use Rattle.std.specs.Prelude.{◌≡◌, ℕ, ◌+◌, ◌<◌, Bool, true, false, ◌&&◌, List, ◌++◌, take, slice_index_or}
+use Rattle.std.specs.Prelude.{◌≡◌, ℕ, ◌+◌, ◌<◌, Bool, true, false, ◌&&◌, List, ◌++◌, length, slice_index_or}
 use Rattle.marks.specs.declared.Marks.{Marks}
 use Rattle.marks.specs.Members.{marked, unmarked}
 use Rattle.search.specs.Words.{count, none}
@@ -25,9 +25,9 @@ lost was tails v h = tail was v h && tailless tails h
 abbrev pub Within : ℕ → List Marks → Type 0
 Within n tails = (t h : ℕ) → tail tails t h ≡ true → (t < n) × (h < n)
 
--- the first k entries are placed, and no unplaced vertex is ready: each has an unplaced tail
-pub record Placed (n : ℕ) (was tails : List Marks) (k : ℕ) (unplaced : ℕ → Bool) (found : List ℕ) : Type 0 where
-  pub front : (vs : List ℕ) → places n (tail was) unplaced vs ≡ true → order n (tail was) (take k found ++ vs) ≡ true
-  pub total : k + count n unplaced ≡ n
+-- these are placed one after the other, and no unplaced vertex is ready: each has an unplaced tail
+pub record Placed (n : ℕ) (was tails : List Marks) (placed : List ℕ) (unplaced : ℕ → Bool) : Type 0 where
+  pub front : (vs : List ℕ) → places n (tail was) unplaced vs ≡ true → order n (tail was) (placed ++ vs) ≡ true
+  pub total : length placed + count n unplaced ≡ n
   pub kept : (t h : ℕ) → tail tails t h ≡ (unplaced t && tail was t h)
   pub stuck : (h : ℕ) → unplaced h ≡ true → tailless tails h ≡ false

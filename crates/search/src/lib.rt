@@ -1,7 +1,7 @@
 // One search over every graph: it finds the order of the vertices, or else a closed walk.
 #![tactic(auto)]
 
-ghost use Rattle.std.specs.Prelude.{◌≡◌, ℕ, ◌+◌, ◌<◌, ◌≤◌, true, false, not, ◌&&◌, ◌||◌, length, take, drop, MatchOption, ◌==◌, nat_lt, slice_index};
+ghost use Rattle.std.specs.Prelude.{◌≡◌, ℕ, ◌+◌, ◌<◌, ◌≤◌, true, false, not, ◌&&◌, ◌||◌, length, take, drop, position, ◌==◌, nat_lt};
 ghost use Rattle.graph.specs.Edges.{joined};
 ghost use Rattle.marks.specs.Members.{marked};
 ghost use Rattle.search.specs.Answer.{Answer, Filled};
@@ -10,8 +10,9 @@ ghost use Rattle.search.specs.Laws.{KeepsEdges, Excludes, Unique};
 ghost use Rattle.search.specs.Orders.{order};
 ghost use Rattle.search.specs.Tails.{tail, empty, tailless, lost, Within, Placed};
 ghost use Rattle.search.specs.Walks.{closed};
-ghost use Rattle.search.specs.Words.{has, distinct};
+ghost use Rattle.search.specs.Words.{distinct};
 
+use arrayvec::ArrayVec;
 use graph::Graph;
 use marks::Marks;
 
@@ -28,36 +29,46 @@ pub enum Found {
 #[derive(Clone, Copy, PartialEq, Eq, Debug)]
 pub struct Short;
 
-// Adds a vertex to the tails of each head that it is joined to.
-fn add_tail<G: Graph>(graph: &G, vertex: usize, tails: &mut [Marks; 256])
-    ensures { (t h : ℕ) → tail tails.new t h ≡ (tail tails.old t h || (t == vertex && joined (G.Graph.edges graph.now) t h)) }
+// The tails of a head.
+fn tails_at<G: Graph>(graph: &G, head: usize) -> Marks
+    ensures { (t : ℕ) → marked result t ≡ joined (G.Graph.edges graph.now) t head }
 {
-    for head in 0..graph.size() {
-        if graph.kinds(vertex, head) != 0 {
-            tails[head].insert(vertex);
-        }
-    }
-}
-
-// For each head the set of its tails.
-fn tails_of<G: Graph>(graph: &G) -> [Marks; 256]
-    ensures { (t h : ℕ) → tail result t h ≡ joined (G.Graph.edges graph.now) t h }
-{
-    let mut tails = [Marks::new(); 256];
+    let mut tails = Marks::new();
     for vertex in 0..graph.size() {
-        add_tail(graph, vertex, &mut tails);
+        if graph.kinds(vertex, head) != 0 {
+            tails.insert(vertex);
+        }
     }
     tails
 }
 
+// For each vertex, as a head, the set of its tails.
+fn tails_of<G: Graph>(graph: &G) -> ArrayVec<Marks, 256>
+    ensures each { length result.items ≡ G.Graph.vertices graph.now }
+    ensures tails { (t h : ℕ) → tail result.items t h ≡ joined (G.Graph.edges graph.now) t h }
+{
+    let mut tails = ArrayVec::new();
+    for head in 0..graph.size() {
+        tails.push(tails_at(graph, head));
+    }
+    tails
+}
+
+// Whether no mark is set.
+fn is_empty(marks: &Marks) -> bool
+    ensures { result ≡ empty marks.now }
+{
+    marks.lowest().is_none()
+}
+
 // The vertices that have no tail.
-fn without_tails(size: usize, tails: &[Marks; 256]) -> Marks
-    requires { size ≤ 256 }
-    ensures { (h : ℕ) → marked result h ≡ (nat_lt h size && tailless tails.now h) }
+fn without_tails(tails: &[Marks]) -> Marks
+    requires { length tails.now ≤ 256 }
+    ensures { (h : ℕ) → marked result h ≡ (nat_lt h (length tails.now) && tailless tails.now h) }
 {
     let mut ready = Marks::new();
-    for head in 0..size {
-        if tails[head].lowest().is_none() {
+    for (head, its_tails) in tails.iter().enumerate() {
+        if is_empty(its_tails) {
             ready.insert(head);
         }
     }
@@ -73,86 +84,83 @@ fn remove_tail(tails: &mut Marks, vertex: usize) -> bool
         return false;
     }
     tails.remove(vertex);
-    tails.lowest().is_none()
+    is_empty(tails)
 }
 
-// Takes a vertex out of the tails of all heads below size, and marks those as ready that then have none left.
-fn release(size: usize, vertex: usize, tails: &mut [Marks; 256], ready: &mut Marks)
-    requires { size ≤ 256 }
-    ensures tails { (t h : ℕ) → tail tails.new t h ≡ (tail tails.old t h && not (nat_lt h size && t == vertex)) }
-    ensures ready { (h : ℕ) → marked ready.new h ≡ (marked ready.old h || (nat_lt h size && lost tails.old tails.new vertex h)) }
+// Takes a vertex out of the tails of all heads, and marks those as ready that then have none left.
+fn release(vertex: usize, tails: &mut [Marks], ready: &mut Marks)
+    requires { length tails.old ≤ 256 }
+    ensures tails { (t h : ℕ) → tail tails.new t h ≡ (tail tails.old t h && not (t == vertex)) }
+    ensures ready { (h : ℕ) → marked ready.new h ≡ (marked ready.old h || lost tails.old tails.new vertex h) }
 {
-    for head in 0..size {
-        if remove_tail(&mut tails[head], vertex) {
+    for (head, its_tails) in tails.iter_mut().enumerate() {
+        if remove_tail(its_tails, vertex) {
             ready.insert(head);
         }
     }
 }
 
-// Places vertices, each time the least that is ready, until none is: says how many, and which are left.
-fn place_all(size: usize, tails: &mut [Marks; 256], found: &mut [u16; 256]) -> (usize, Marks)
-    requires few { size ≤ 256 }
-    requires within { Within size tails.old }
-    ensures { Placed size tails.old tails.new result.0 (marked result.1) found.new }
+// Places vertices, each time the least that is ready, until none is: gives them, and which are left.
+fn place_all(tails: &mut [Marks]) -> (ArrayVec<u16, 256>, Marks)
+    requires few { length tails.old ≤ 256 }
+    requires within { Within (length tails.old) tails.old }
+    ensures { Placed (length tails.old) tails.old tails.new result.0.items (marked result.1) }
 {
-    let mut placed = 0;
-    let mut unplaced = Marks::first(size);
-    let mut ready = without_tails(size, tails);
+    let mut placed = ArrayVec::new();
+    let mut unplaced = Marks::first(tails.len());
+    let mut ready = without_tails(tails);
     while let Some(vertex) = ready.lowest() {
-        found[placed] = vertex as u16;
-        placed += 1;
+        placed.push(vertex as u16);
         unplaced.remove(vertex);
         ready.remove(vertex);
-        release(size, vertex, tails, &mut ready);
+        release(vertex, tails, &mut ready);
     }
     (placed, unplaced)
 }
 
-// The first place, from one on, at which a vertex stands.
-fn position(path: &[u16; 256], from: usize, vertex: usize) -> Option<usize>
-    requires { from ≤ 256 }
-    ensures { MatchOption result (has (drop from path.now) vertex ≡ false) (λ at. (from ≤ at) × (at < 256) × (slice_index path.now at ≡ vertex)) }
-{
-    for at in from..256 {
-        if path[at] as usize == vertex {
-            return Some(at);
-        }
-    }
-    None
-}
-
-// Goes from a vertex to a tail of it, from there on likewise, and stops before a vertex comes again. The path is written from its end
-// downwards, so that it runs along the edges: says where in it a closed walk begins, and how many vertices that has.
-fn follow(tails: &[Marks; 256], start: usize, path: &mut [u16; 256]) -> (usize, usize)
-    requires begins { (start < 256) × (tailless tails.now start ≡ false) }
+// Goes from a vertex to a tail of it, from there on likewise, until a vertex comes again: the way back from there is a closed walk.
+fn follow(tails: &[Marks], start: usize) -> ArrayVec<u16, 256>
+    requires few { length tails.now ≤ 256 }
+    requires begins { tailless tails.now start ≡ false }
     requires continues { (t h : ℕ) → tail tails.now t h ≡ true → tailless tails.now t ≡ false }
-    ensures fits { result.0 + result.1 ≤ 256 }
-    ensures closed { closed 256 (tail tails.now) (take result.1 (drop result.0 path.new)) ≡ true }
-    ensures distinct { distinct (take result.1 (drop result.0 path.new)) ≡ true }
+    ensures closed { closed 256 (tail tails.now) result.items ≡ true }
+    ensures distinct { distinct result.items ≡ true }
 {
+    let mut path = ArrayVec::new();
     let mut vertex = start;
-    let mut at = 256;
     loop {
-        at -= 1;
-        path[at] = vertex as u16;
+        path.push(vertex as u16);
         let Some(tail) = tails[vertex].lowest() else {
             unreachable()
         };
-        if let Some(end) = position(path, at, tail) {
-            return (at, end + 1 - at);
+        if let Some(first) = place_of(&path, tail) {
+            path.reverse();
+            path.truncate(path.len() - first);
+            return path;
         }
         vertex = tail;
     }
 }
 
-// Copies some entries, from a place on, to the front of the report.
-fn copy(found: &[u16; 256], at: usize, count: usize, report: &mut [u16])
-    requires found { at + count ≤ 256 }
-    requires report { count ≤ length report.old }
-    ensures front { take count report.new ≡ take count (drop at found.now) }
-    ensures rest { drop count report.new ≡ drop count report.old }
+// The first place at which a vertex stands.
+fn place_of(path: &[u16], vertex: usize) -> Option<usize>
+    ensures { result ≡ position (λ passed. passed == vertex) path.now }
 {
-    report[0..count].copy_from_slice(&found[at..at + count]);
+    path.iter()
+        .position(|passed| usize::from(*passed) == vertex)
+}
+
+// Writes vertices to the front of the report, and says how many they are.
+fn write(vertices: &ArrayVec<u16, 256>, report: &mut [u16]) -> usize
+    requires { 256 ≤ length report.old }
+    ensures front { take result report.new ≡ vertices.now.items }
+    ensures rest { drop result report.new ≡ drop result report.old }
+    ensures count { result ≡ length vertices.now.items }
+    ensures few { result ≤ 256 }
+{
+    let count = vertices.len();
+    report[..count].copy_from_slice(vertices);
+    count
 }
 
 // Searches a graph, with room in the report.
@@ -161,18 +169,11 @@ fn search_into<G: Graph>(graph: &G, report: &mut [u16]) -> Found
     ensures { Filled (G.Graph.vertices graph.now) (joined (G.Graph.edges graph.now)) report.old report.new result }
 {
     let mut tails = tails_of(graph);
-    let mut found = [0; 256];
-    let (placed, unplaced) = place_all(graph.size(), &mut tails, &mut found);
+    let tails = tails.as_mut_slice();
+    let (placed, unplaced) = place_all(tails);
     match unplaced.lowest() {
-        None => {
-            copy(&found, 0, placed, report);
-            Found::Order(placed)
-        }
-        Some(vertex) => {
-            let (at, count) = follow(&tails, vertex, &mut found);
-            copy(&found, at, count, report);
-            Found::Walk(count)
-        }
+        None => Found::Order(write(&placed, report)),
+        Some(vertex) => Found::Walk(write(&follow(tails, vertex), report)),
     }
 }
 

@@ -5,42 +5,12 @@ ghost use Rattle.std.specs.Prelude.{◌≡◌, ℕ, max, true, List, Decides, �
 ghost use Rattle.graph.specs.Edges.{joined, filtered, united};
 ghost use Rattle.search.specs.Answer.{Answer};
 ghost use Rattle.search.specs.Walks.{closed};
-ghost use Rattle.search_tests.specs.Starts.{begun, starts, starts_well};
 
-use graph::{Filter, Graph, Kind, Union};
+use graph::{Filter, Graph, Union};
 use search::{Found, Short};
 
 #[cfg(test)]
 mod tests;
-
-// From a tail that ended before a head began goes an edge of kind start. There are as many vertices as both lists tell of, at most 256.
-#[derive(Clone, Copy)]
-pub struct Starts<'a> {
-    pub begins: &'a [u16],
-    pub ends: &'a [u16],
-}
-
-impl<'a> Graph for Starts<'a> {
-    ghost vertices = { λ s. begun s.begins.now s.ends.now };
-
-    ghost edges = { λ s. starts s.begins.now s.ends.now };
-
-    ghost well = { λ s. starts_well s.begins.now s.ends.now };
-
-    fn size(&self) -> usize {
-        self.begins.len().min(self.ends.len()).min(256)
-    }
-
-    fn kinds(&self, tail: usize, head: usize) -> u8 {
-        let size = self.size();
-        if tail < size && head < size && tail != head {
-            if self.ends[tail] < self.begins[head] {
-                return Kind::Start.bit();
-            }
-        }
-        0
-    }
-}
 
 // The search over a filter of a union, of which both graphs come back.
 pub fn find_in_both<A: Graph, B: Graph>(

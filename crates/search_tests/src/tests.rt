@@ -1,6 +1,6 @@
 // Small graphs in a table, each with what the search must find, graphs of all 256 vertices, a union, and a short report.
 use super::*;
-use graph::Table;
+use graph::{Kind, Span, Starts, Table};
 use std::alloc::{AllocError, Global};
 use std::process::Abort;
 use std::test::Fail;
@@ -34,9 +34,8 @@ const LAST_THREE: [(u8, u8, Kind); 3] = [
 struct Case<'a>(usize, &'a [(u8, u8, Kind)], u8, Found, &'a [u16]);
 
 fn join(bytes: &mut [u8], tail: u8, head: u8, kind: Kind) {
-    let at = 256 * usize::from(tail) + usize::from(head);
-    if at < bytes.len() {
-        bytes[at] |= kind.bit();
+    if let Some(kinds) = bytes.get_mut(256 * usize::from(tail) + usize::from(head)) {
+        *kinds |= kind.bit();
     }
 }
 
@@ -49,28 +48,20 @@ fn table(heap: Global, edges: &[(u8, u8, Kind)]) -> Result<Vec<u8>, AllocError> 
 }
 
 // The report begins so, and the rest is as before.
-fn begins(rt: &impl Abort, report: &[u16], front: &[u16]) -> Result<(), Fail> {
-    for (at, entry) in report.iter().enumerate() {
-        let expected = if at < front.len() { front[at] } else { BEFORE };
-        assert!(rt; *entry == expected);
-    }
-    Ok(())
+fn begins(rt: &impl Abort, report: &[u16], front: &[u16]) {
+    let rest = report.strip_prefix(front);
+    assert!(rt; rest.is_some_and(|rest| rest.iter().all(|entry| *entry == BEFORE)));
 }
 
 // Each vertex is joined to the next, and the last to the first.
 fn comes_back<G: Graph>(rt: &impl Abort, graph: &G, walk: &[u16]) {
-    for (at, vertex) in walk.iter().enumerate() {
-        let next = if at + 1 < walk.len() {
-            walk[at + 1]
-        } else {
-            walk[0]
-        };
-        assert!(rt; graph.kinds(usize::from(*vertex), usize::from(next)) != 0);
+    for (vertex, next) in walk.iter().zip(walk.iter().cycle().skip(1)) {
+        assert!(rt; graph.kinds(usize::from(*vertex), usize::from(*next)) != 0);
     }
 }
 
 // The search finds that order, or a closed walk of so many vertices.
-fn finds<G: Graph>(rt: &impl Abort, graph: &G, found: Found, order: &[u16]) -> Result<(), Fail> {
+fn finds<G: Graph>(rt: &impl Abort, graph: &G, found: Found, order: &[u16]) {
     let mut report = [BEFORE; 300];
     assert_eq!(rt; search::find(graph, &mut report), Ok(found));
     match found {
@@ -79,14 +70,14 @@ fn finds<G: Graph>(rt: &impl Abort, graph: &G, found: Found, order: &[u16]) -> R
             assert!(rt; count <= 300);
             let walk = &report[0..count];
             comes_back(rt, graph, walk);
-            begins(rt, &report, walk)
+            begins(rt, &report, walk);
         }
     }
 }
 
 // The same, of a table of all 256 vertices.
-fn finds_in(rt: &impl Abort, bytes: &[u8], found: Found, order: &[u16]) -> Result<(), Fail> {
-    finds(rt, &Table { bytes, size: 256 }, found, order)
+fn finds_in(rt: &impl Abort, bytes: &[u8], found: Found, order: &[u16]) {
+    finds(rt, &Table { bytes, size: 256 }, found, order);
 }
 
 #[test]
@@ -108,7 +99,7 @@ fn small_graphs(rt: HostRuntime) -> Result<(), Fail> {
             bytes: &bytes,
             size,
         };
-        finds(&rt, &Filter { graph, kinds }, found, order)?;
+        finds(&rt, &Filter { graph, kinds }, found, order);
     }
     Ok(())
 }
@@ -128,10 +119,11 @@ fn all_vertices(rt: HostRuntime) -> Result<(), Fail> {
         join(&mut into_cycle, v.min(252), v.min(252) + 1, Kind::Ww);
         join(&mut out_of_cycle, v.min(252) + 1, v.min(252), Kind::Ww);
     }
-    finds_in(&rt, &reverse, Found::Order(256), &falling)?;
-    finds_in(&rt, &cycle, Found::Walk(256), &[])?;
-    finds_in(&rt, &into_cycle, Found::Walk(3), &[])?;
-    finds_in(&rt, &out_of_cycle, Found::Walk(3), &[])
+    finds_in(&rt, &reverse, Found::Order(256), &falling);
+    finds_in(&rt, &cycle, Found::Walk(256), &[]);
+    finds_in(&rt, &into_cycle, Found::Walk(3), &[]);
+    finds_in(&rt, &out_of_cycle, Found::Walk(3), &[]);
+    Ok(())
 }
 
 #[test]
@@ -142,12 +134,15 @@ fn union_closes_a_cycle(rt: HostRuntime) -> Result<(), Fail> {
         size: 2,
     };
     let second = Starts {
-        begins: &[5, 20, 1],
-        ends: &[10, 30, 40],
+        spans: &[
+            Span { begin: 5, end: 10 },
+            Span { begin: 20, end: 30 },
+            Span { begin: 1, end: 40 },
+        ],
     };
-    finds(&rt, &first, Found::Order(2), &[1, 0])?;
-    finds(&rt, &second, Found::Order(3), &[0, 1, 2])?;
-    finds(&rt, &Union { first, second }, Found::Walk(2), &[])?;
+    finds(&rt, &first, Found::Order(2), &[1, 0]);
+    finds(&rt, &second, Found::Order(3), &[0, 1, 2]);
+    finds(&rt, &Union { first, second }, Found::Walk(2), &[]);
     let mut report = [BEFORE; 256];
     let (found, first, second) = find_in_both(first, second, Kind::Rw.bit(), &mut report);
     assert_eq!(rt; found, Ok(Found::Order(3)));
@@ -156,12 +151,9 @@ fn union_closes_a_cycle(rt: HostRuntime) -> Result<(), Fail> {
 }
 
 #[test]
-fn short_report(rt: HostRuntime) -> Result<(), Fail> {
+fn short_report(rt: HostRuntime) {
     let mut report = [BEFORE; 255];
-    let graph = Starts {
-        begins: &[],
-        ends: &[],
-    };
+    let graph = Starts { spans: &[] };
     assert_eq!(rt; search::find(&graph, &mut report), Err(Short));
-    begins(&rt, &report, &[])
+    begins(&rt, &report, &[]);
 }

@@ -1,32 +1,34 @@
 // Findings on a recorded run; what they mean is in specs/.
 #![tactic(auto)]
 
-ghost use Rattle.std.specs.Prelude.{◌≡◌};
+ghost use Rattle.std.specs.Prelude.{◌≡◌, Some};
 ghost use Rattle.verdicts.specs.Claims.{KnownRuns};
 ghost use Rattle.verdicts.specs.Names.{number as finding-number, name as finding-name};
 
+use std::fmt;
+
 // What can be wrong with a run, in the order in which it is looked for. The first five are shown by two events, the others
 // by a closed walk along edges.
-#[derive(Clone, Copy, PartialEq, Debug)]
+#[derive(Clone, Copy, PartialEq, Eq, Debug)]
 pub enum Finding {
     // a read of what another transaction never committed
-    G1a,
+    G1a = 1,
     // a read of a modification that is not its writer's last
-    G1b,
+    G1b = 2,
     // a read of a version that is older than the reader's snapshot
-    SiA,
+    SiA = 3,
     // a dependency on what is not in the snapshot
-    SiB,
+    SiB = 4,
     // a write that was overwritten by a transaction that committed first
-    SiC,
+    SiC = 5,
     // a cycle of ww edges
-    G0,
+    G0 = 6,
     // a cycle of ww and wr edges
-    G1c,
+    G1c = 7,
     // a cycle of ww, wr and rw edges
-    G2,
+    G2 = 8,
     // a cycle of all edges, start edges too
-    Rt,
+    Rt = 9,
 }
 
 impl Finding {
@@ -34,34 +36,33 @@ impl Finding {
     pub fn number(self) -> u8
         ensures { result ≡ finding-number self }
     {
-        match self {
-            Finding::G1a => 1,
-            Finding::G1b => 2,
-            Finding::SiA => 3,
-            Finding::SiB => 4,
-            Finding::SiC => 5,
-            Finding::G0 => 6,
-            Finding::G1c => 7,
-            Finding::G2 => 8,
-            Finding::Rt => 9,
-        }
+        self as u8
     }
 
-    // The finding's name in ASCII.
-    pub fn name(self) -> &'static [u8]
+    // The finding's name.
+    pub fn name(self) -> &'static str
         ensures { result.now ≡ finding-name self }
     {
         match self {
-            Finding::G1a => b"G1a",
-            Finding::G1b => b"G1b",
-            Finding::SiA => b"SI-a",
-            Finding::SiB => b"SI-b",
-            Finding::SiC => b"SI-c",
-            Finding::G0 => b"G0",
-            Finding::G1c => b"G1c",
-            Finding::G2 => b"G2",
-            Finding::Rt => b"RT",
+            Finding::G1a => "G1a",
+            Finding::G1b => "G1b",
+            Finding::SiA => "SI-a",
+            Finding::SiB => "SI-b",
+            Finding::SiC => "SI-c",
+            Finding::G0 => "G0",
+            Finding::G1c => "G1c",
+            Finding::G2 => "G2",
+            Finding::Rt => "RT",
         }
+    }
+}
+
+// Its name.
+impl fmt::Display for Finding {
+    ghost output = { λ finding. Some (finding-name finding) };
+
+    fn fmt<W: fmt::Write>(&self, f: &mut fmt::Formatter<W>) -> fmt::Result {
+        f.pad(self.name())
     }
 }
 

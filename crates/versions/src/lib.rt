@@ -5,4 +5,4 @@ mod order;
 mod successor;
 
 pub use order::{Rule, VersionOrder};
-pub use successor::{comes_after, is_ordered, next_version};
+pub use successor::Versions;

@@ -1,30 +1,32 @@
--- What zeros, a place and one more transaction at the end make of a numbering.
-use Rattle.std.proofs.Common.{◌≡◌, ℕ, suc, ◌+◌, ◌-◌, ◌<◌, ◌≤◌, true, false, cond, eqb, ltb, ◌≢◌, List, [], ◌∷◌, ◌++◌, length, get_or, set, replicate, IfOk, Some, None, Ok, Err, vec_items, vec_len, Option, Result, Vec, sym, refl, ap, ◌∙◌, inl, inr, arith}
-use Rattle.std.specs.Option.{SomeIff}
-use Rattle.std.proofs.lemmas.List.{get_or-replicate, get_or_past, get_or_push, get_or_append_left, get_or-set_same, get_or-set_other, length_push, length-replicate}
-use Rattle.std.proofs.lemmas.Bool.{cases_Bool, cases_eq, cases_lt, cases_order, cond-true, cond-false, and_parts, eq-eqb, ne_eqb, lt-ltb, le-ltb, ltb-true}
+-- What one more transaction at the end makes of a numbering.
+use Rattle.std.proofs.Common.{◌≡◌, ℕ, suc, ◌-◌, ◌<◌, ◌≤◌, true, false, cond, eqb, ltb, ◌≢◌, List, [], ◌∷◌, ◌++◌, length, get_or, set, replicate, Some, None, vec_items, vec_len, Option, sym, refl, ap, ◌∙◌, inl, inr, arith}
+use Rattle.std.proofs.lemmas.List.{get_or-replicate, get_or_past, get_or-set_same, get_or-set_other, length_push, length-set, length-replicate}
+use Rattle.std.proofs.lemmas.Bool.{cases_Bool, cases_eq, cases_lt, cond-true, cond-false, and_parts, eq-eqb, ne_eqb, le-ltb, ltb-true}
 use Rattle.std.proofs.lemmas.Bool.Decides.{nat_tests}
 use Rattle.events.specs.Lists.{count, any, every, first}
 use Rattle.events.specs.Questions.{is_transaction}
 use Rattle.events.proofs.Pushes.{count_push, every_push, first_other, first_new}
 use Rattle.verdict_laws.proofs.Lists.{count_none}
 use Rattle.vertices.specs.declared.numbering.Vertices.{Vertices}
-use Rattle.vertices.specs.Numbering.{member_of, stands_at, Numbers, place_of}
+use Rattle.vertices.specs.Numbering.{stands_at, Numbers}
+use Rattle.vertices.specs.Places.{place_of}
 use Rattle.vertices.proofs.Firsts.{any_first}
 use Rattle.vertices.proofs.Few.{few_numbers}
 
-pub get_or_zeros : (n k : ℕ) → ◌≡◌ {A = ℕ} (get_or (replicate n 0) k 0) 0
-get_or_zeros n k = elim (cases_lt k n) [ inl h ↦ get_or-replicate n k 0 0 h | inr h ↦ get_or_past (replicate n 0) k 0 (rw length-replicate h) ]
+-- of places that were all taken away, none is left
+pub no_place : (n k : ℕ) → place_of (get_or (replicate n None) k None) ≡ 0
+no_place n k = elim (cases_lt k n) [ inl h ↦ ap place_of (get_or-replicate n k None None h) | inr h ↦ ap place_of (get_or_past (replicate n None) k None (rw length-replicate h)) ]
 
-pub zeros_made : {Z E : Type 0} (r : Result (Vec ℕ Z) E) (n : ℕ) (Q : Type 0) → Q → IfOk r (λ v. vec_len v ≡ n) → IfOk r (λ v. Q → vec_items v ≡ replicate n 0)
-    → IfOk r (λ v. (vec_len v ≡ n) × ((k : ℕ) → get_or (vec_items v) k 0 ≡ 0))
-zeros_made (Ok v) n Q q h e = (h, λ k. rw (e q) (get_or_zeros n k))
-zeros_made (Err y) n Q q h e = tt
-
--- one less than a place, where it is not 0, as code has it
-pub place_checked : (r : Option ℕ) (p : ℕ) → SomeIff r (1 ≤ p) (p - 1) → place_of r ≡ p
-place_checked None p h = omega arith
-place_checked (Some a) p h = omega arith
+-- one place more, as near as the others
+pub near_more : (vs : List (Option ℕ)) (i a : ℕ) → a < 256 → ((k : ℕ) → place_of (get_or vs k None) ≤ 256) → (k : ℕ) → place_of (get_or (set vs i (Some a)) k None) ≤ 256
+near_more vs i a h near k =
+    elim (cases_eq k i) [
+      | inl e ↦ elim (cases_lt i (length vs)) [
+        | inl l ↦ omega (arith, ap place_of (ap (λ j. get_or (set vs i (Some a)) j None) e ∙ get_or-set_same vs i (Some a) None l))
+        | inr l ↦ omega (arith, ap place_of (get_or_past (set vs i (Some a)) k None (omega (arith, length-set vs i (Some a)))))
+      ]
+      | inr e ↦ omega (arith, ap place_of (get_or-set_other vs i k (Some a) None e), near k)
+    ]
 
 pub numbered_range : (t : ℕ) → is_transaction t ≡ true → (0 < t) × (t < 257)
 numbered_range t h = let d = and_parts (ltb 0 t) (ltb t 257) h in (ltb-true 0 t d.0, ltb-true t 257 d.1)
@@ -47,32 +49,24 @@ module _ (v : Vertices) (cs : List ℕ) (k : Numbers v cs) (t : ℕ) (number : i
   few_more : length (cs ++ t ∷ []) ≤ 256
   few_more = few_numbers (cs ++ t ∷ []) once_more numbered_more
 
+  pub so_many : vec_len v.transactions ≡ length cs
+  so_many = omega (arith, v.transactions.ok.0, ap length k.members)
+
   -- there is room for a transaction that is not yet a vertex
-  pub room : v.count < 256
-  room = omega (arith, few_more, length_push cs t, k.so_many)
+  pub room : vec_len v.transactions < 256
+  room = omega (arith, few_more, length_push cs t, so_many)
 
-  module _ (v' : Vertices) (n : v'.count ≡ v.count + 1) (ts : vec_items v'.transactions ≡ set (vec_items v.transactions) v.count t) (ps : vec_items v'.places ≡ set (vec_items v.places) (t - 1) (v.count + 1)) where
-    member_more : (a : ℕ) → member_of v' a ≡ get_or (cs ++ t ∷ []) a 0
-    member_more a = elim (cases_order a v.count) [
-      | inl e ↦ inside (omega arith) ∙ ap (λ i. get_or (vec_items v'.transactions) i 0) e ∙ ap (λ l. get_or l v.count 0) ts ∙ get_or-set_same (vec_items v.transactions) v.count t 0 (omega (arith, room, v.long, v.transactions.ok.0)) ∙ sym (get_or_push cs t 0 a (omega (arith, k.so_many)))
-      | inr (inl l) ↦ inside (omega arith) ∙ ap (λ l. get_or l a 0) ts ∙ get_or-set_other (vec_items v.transactions) v.count a t 0 (omega arith)
-          ∙ sym (cond-true (ltb a v.count) (get_or (vec_items v.transactions) a 0) 0 (lt-ltb a v.count l)) ∙ k.members a ∙ sym (get_or_append_left cs (t ∷ []) 0 a (omega (arith, k.so_many)))
-      | inr (inr l) ↦ cond-false (ltb a v'.count) _ 0 (le-ltb a v'.count (omega arith)) ∙ sym (get_or_past (cs ++ t ∷ []) a 0 (omega (arith, k.so_many, length_push cs t)))
-    ]
-      where
-        inside : a < v'.count → member_of v' a ≡ get_or (vec_items v'.transactions) a 0
-        inside h = cond-true (ltb a v'.count) _ 0 (lt-ltb a v'.count h)
-
+  module _ (v' : Vertices) (ts : vec_items v'.transactions ≡ vec_items v.transactions ++ t ∷ []) (vs : vec_items v'.vertices ≡ set (vec_items v.vertices) (t - 1) (Some (length cs))) where
     here : stands_at v' t ≡ suc (length cs)
     here =
-        cond-true (is_transaction t) _ 0 number ∙ ap (λ l. get_or l (t - 1) 0) ps
-        ∙ get_or-set_same (vec_items v.places) (t - 1) (v.count + 1) 0 (omega (arith, numbered_range t number, v.wide, v.places.ok.0)) ∙ omega (arith, k.so_many)
+        cond-true (is_transaction t) _ 0 number ∙ ap (λ l. place_of (get_or l (t - 1) None)) vs
+        ∙ ap place_of (get_or-set_same (vec_items v.vertices) (t - 1) (Some (length cs)) None (omega (arith, numbered_range t number, v.wide, v.vertices.ok.0))) ∙ omega arith
 
     there : (u : ℕ) → (u ≡ t → ⊥) → stands_at v' u ≡ stands_at v u
     there u h = elim (cases_Bool (is_transaction u)) [
       | inl e ↦
           let apart : u - 1 ≢ t - 1 = λ i. h (omega (arith, numbered_range u e, numbered_range t number)) in
-          ap (λ x. cond (is_transaction u) x 0) (ap (λ l. get_or l (u - 1) 0) ps ∙ get_or-set_other (vec_items v.places) (t - 1) (u - 1) (v.count + 1) 0 apart)
+          ap (λ x. cond (is_transaction u) (place_of x) 0) (ap (λ l. get_or l (u - 1) None) vs ∙ get_or-set_other (vec_items v.vertices) (t - 1) (u - 1) (Some (length cs)) None apart)
       | inr e ↦ cond-false (is_transaction u) _ 0 e ∙ sym (cond-false (is_transaction u) _ 0 e)
     ]
 
@@ -84,8 +78,7 @@ module _ (v : Vertices) (cs : List ℕ) (k : Numbers v cs) (t : ℕ) (number : i
 
     pub numbers_push : Numbers v' (cs ++ t ∷ [])
     numbers_push = record {
-      so_many = omega (arith, n, k.so_many, length_push cs t);
-      members = member_more;
+      members = ts ∙ ap (λ l. l ++ t ∷ []) k.members;
       places = place_more;
       few = few_more;
       once = once_more;

@@ -1,10 +1,13 @@
 // The five forms of a line, made of fields.
-ghost use Rattle.std.specs.Prelude.{◌≡◌, ℕ, List, ◌∷◌, Err, MatchResult, ◌≢◌};
+ghost use Rattle.std.specs.Prelude.{◌≡◌, ℕ, ◌^◌, ◌<◌, List, ◌∷◌, Err, MatchResult, ◌≢◌};
+ghost use Rattle.events.specs.declared.Event.{Event as Recorded};
 ghost use Rattle.lines.specs.Lines.{LedBy, NoForm};
-ghost use Rattle.lines.specs.Grammar.{parse, begin_form, read_form, write_form, commit_form, abort_form, forms};
-ghost use Rattle.line_reader.specs.Parts.{is_letter};
+ghost use Rattle.lines.specs.Grammar.{done, parse, begin_form, read_form, write_form, forms};
+ghost use Rattle.lines.specs.Grammar as grammar;
+ghost use Rattle.line_reader.specs.Parts.{is_letter, parse_part};
 
 use super::{level, number, version};
+use crate::part::Part;
 use events::Event;
 use lines::FormFault;
 
@@ -26,12 +29,16 @@ fn form(text: &[u8]) -> Result<(Event, usize), FormFault>
     let [letter, b' ', rest @ ..] = text else {
         return Err(unlettered(text));
     };
+    let fields = Part {
+        text: rest,
+        column: FIELDS,
+    };
     match *letter as char {
-        'b' => begin(rest),
-        'r' => read(rest),
-        'w' => write(rest),
-        'c' => commit(rest),
-        'a' => abort(rest),
+        'b' => begin(fields),
+        'r' => read(fields),
+        'w' => write(fields),
+        'c' => alone(fields, |transaction| Event::Commit { transaction }),
+        'a' => alone(fields, |transaction| Event::Abort { transaction }),
         _ => Err(FormFault { column: 1 }),
     }
 }
@@ -57,60 +64,49 @@ fn names_form(letter: u8) -> bool
 
 // What follows the letter of each form: the event, and the column after its line.
 
-fn begin(rest: &[u8]) -> Result<(Event, usize), FormFault>
-    ensures { result ≡ parse begin_form 3 rest.now }
+fn begin(part: Part<'_>) -> Result<(Event, usize), FormFault>
+    ensures { result ≡ parse_part begin_form part.entry }
 {
-    let (transaction, rest) = number(rest, b' ', FIELDS)?;
-    let (word, _) = level(rest, b'\n', transaction.next())?;
+    let (transaction, rest) = number(part, b' ')?;
+    let (word, rest) = level(rest, b'\n')?;
     let event = Event::Begin {
         transaction: transaction.value(),
         level: word.value(),
     };
-    Ok((event, word.next()))
+    Ok((event, rest.column))
 }
 
-fn read(rest: &[u8]) -> Result<(Event, usize), FormFault>
-    ensures { result ≡ parse read_form 3 rest.now }
+fn read(part: Part<'_>) -> Result<(Event, usize), FormFault>
+    ensures { result ≡ parse_part read_form part.entry }
 {
-    let (transaction, rest) = number(rest, b' ', FIELDS)?;
-    let (item, rest) = number(rest, b' ', transaction.next())?;
-    let (seen, _) = version(rest, b'\n', item.next())?;
+    let (transaction, rest) = number(part, b' ')?;
+    let (item, rest) = number(rest, b' ')?;
+    let (seen, rest) = version(rest, b'\n')?;
     let event = Event::Read {
         transaction: transaction.value(),
         item: item.value(),
         version: seen.version(),
     };
-    Ok((event, seen.next()))
+    Ok((event, rest.column))
 }
 
-fn write(rest: &[u8]) -> Result<(Event, usize), FormFault>
-    ensures { result ≡ parse write_form 3 rest.now }
+fn write(part: Part<'_>) -> Result<(Event, usize), FormFault>
+    ensures { result ≡ parse_part write_form part.entry }
 {
-    let (transaction, rest) = number(rest, b' ', FIELDS)?;
-    let (item, _) = number(rest, b'\n', transaction.next())?;
+    let (transaction, rest) = number(part, b' ')?;
+    let (item, rest) = number(rest, b'\n')?;
     let event = Event::Write {
         transaction: transaction.value(),
         item: item.value(),
     };
-    Ok((event, item.next()))
+    Ok((event, rest.column))
 }
 
-fn commit(rest: &[u8]) -> Result<(Event, usize), FormFault>
-    ensures { result ≡ parse commit_form 3 rest.now }
+// A transaction alone, which makes the event.
+fn alone<F: FnOnce(u16) -> Event>(part: Part<'_>, event: F) -> Result<(Event, usize), FormFault>
+    requires { F.IsAlwaysCallable event }
+    ensures { (made : ℕ → Recorded) → ((t : ℕ) (e : Recorded) → t < 2 ^ 16 → F.post event t e → e ≡ made t) → result ≡ parse_part (grammar.number 10 (λ t. done (made t))) part.entry }
 {
-    let (transaction, _) = number(rest, b'\n', FIELDS)?;
-    let event = Event::Commit {
-        transaction: transaction.value(),
-    };
-    Ok((event, transaction.next()))
-}
-
-fn abort(rest: &[u8]) -> Result<(Event, usize), FormFault>
-    ensures { result ≡ parse abort_form 3 rest.now }
-{
-    let (transaction, _) = number(rest, b'\n', FIELDS)?;
-    let event = Event::Abort {
-        transaction: transaction.value(),
-    };
-    Ok((event, transaction.next()))
+    let (transaction, rest) = number(part, b'\n')?;
+    Ok((event(transaction.value()), rest.column))
 }

@@ -1,11 +1,12 @@
 // What a fault says of itself.
-ghost use Rattle.std.specs.Prelude.{◌≡◌, length};
-ghost use Rattle.listing.specs.Faults.{fault_number, fault_layer, fault_column, layer_word};
+ghost use Rattle.std.specs.Prelude.{◌≡◌, Some};
+ghost use Rattle.listing.specs.Faults.{fault_number, fault_layer, fault_column, layer_word, fault_text};
 ghost use Rattle.listing.specs.Writings.{write_number};
 
 use super::{Fault, Layer, LineFault, WriteFault};
 use events::Refusal;
 use lines::FormFault;
+use std::fmt;
 
 impl Layer {
     // The word for the layer.
@@ -17,6 +18,15 @@ impl Layer {
             Layer::Recorder => "recorder",
             Layer::Tape => "tape",
         }
+    }
+}
+
+// Its word.
+impl fmt::Display for Layer {
+    ghost output = { λ layer. Some (layer_word layer) };
+
+    fn fmt<W: fmt::Write>(&self, f: &mut fmt::Formatter<W>) -> fmt::Result {
+        f.pad(self.word())
     }
 }
 
@@ -50,6 +60,19 @@ impl Fault {
             LineFault::Form(FormFault { column }) => column,
             LineFault::Refused(_) => 1,
         }
+    }
+}
+
+// `fault NUMBER LAYER LINE COLUMN`
+impl fmt::Display for Fault {
+    ghost output = { λ fault. Some (fault_text fault) };
+
+    fn fmt<W: fmt::Write>(&self, f: &mut fmt::Formatter<W>) -> fmt::Result {
+        let number = self.number();
+        let layer = self.layer();
+        let line = self.line;
+        let column = self.column();
+        write!(f, "fault {number} {layer} {line} {column}")
     }
 }
 

@@ -1,5 +1,5 @@
 // How the committed transactions of a run become vertices.
-ghost use Rattle.std.specs.Prelude.{◌≡◌, ℕ, true, List, [], ◌∷◌, ◌++◌, IfOk, vec_len, nat_eq, slice_index};
+ghost use Rattle.std.specs.Prelude.{◌≡◌, ℕ, true, List, [], ◌∷◌, ◌++◌, IfOk, nat_eq};
 ghost use Rattle.events.specs.Lists.{first};
 ghost use Rattle.events.specs.Questions.{is_transaction, unfit_at};
 ghost use Rattle.verdicts.specs.Versions.{committed};
@@ -10,24 +10,14 @@ use events::Event;
 use history::History;
 use std::alloc::{AllocError, Global};
 
-// So many zeros.
-fn zeros(heap: Global, n: usize) -> Result<Vec<u16>, AllocError>
-    ensures { IfOk result (λ v. (vec_len v ≡ n) × ((k : ℕ) → slice_index v.items k ≡ 0)) }
-{
-    vec![in heap; 0; n]
-}
-
 impl Vertices {
     // No vertices: those of an empty run.
     pub fn new(heap: Global) -> Result<Vertices, AllocError>
         ensures { IfOk result (λ vertices. Numbers vertices []) }
     {
-        let transactions = zeros(heap, 256)?;
-        let places = zeros(heap, 256)?;
         Ok(Vertices {
-            transactions,
-            places,
-            count: 0,
+            transactions: Vec::with_capacity(heap, 256)?,
+            vertices: vec![in heap; None; 256]?,
         })
     }
 
@@ -37,8 +27,8 @@ impl Vertices {
         ensures { unfit_at [] (H.events history.now) ≡ 0 → Numbers self.new (committed (H.events history.now)) }
     {
         self.clear();
-        for done in 0..history.len() {
-            if let Event::Commit { transaction } = history.event(done + 1) {
+        for event in history.iter() {
+            if let Event::Commit { transaction } = event {
                 self.add(transaction);
             }
         }
@@ -48,8 +38,8 @@ impl Vertices {
     fn clear(&mut self)
         ensures { Numbers self.new [] }
     {
-        self.places.fill(0);
-        self.count = 0;
+        self.transactions.clear();
+        self.vertices.fill(None);
     }
 
     // The transaction becomes the next vertex, where its number is one and there is room, as there is for one that is not
@@ -57,12 +47,11 @@ impl Vertices {
     fn add(&mut self, transaction: u16)
         ensures { (cs : List ℕ) → Numbers self.old cs → is_transaction transaction ≡ true → first (nat_eq transaction) cs ≡ 0 → Numbers self.new (cs ++ transaction ∷ []) }
     {
-        let vertex = self.count;
+        let vertex = self.transactions.len();
         if transaction == 0 || transaction > 256 || vertex >= 256 {
             return;
         }
-        self.transactions[vertex as usize] = transaction;
-        self.places[transaction as usize - 1] = vertex + 1;
-        self.count = vertex + 1;
+        self.transactions.push_reserved(transaction);
+        self.vertices[transaction as usize - 1] = Some(vertex as u16);
     }
 }

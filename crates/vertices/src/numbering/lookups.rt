@@ -1,7 +1,8 @@
 // What is asked of a numbering.
 ghost use Rattle.std.specs.Prelude.{◌≡◌, ℕ, ◌≤◌, List, length, nat_eq, slice_index};
 ghost use Rattle.events.specs.Lists.{first};
-ghost use Rattle.vertices.specs.Numbering.{Numbers, place_of};
+ghost use Rattle.vertices.specs.Numbering.{Numbers};
+ghost use Rattle.vertices.specs.Places.{place_of};
 
 use super::Vertices;
 
@@ -11,24 +12,24 @@ impl Vertices {
         ensures all { (cs : List ℕ) → Numbers self.now cs → result ≡ length cs }
         ensures few { result ≤ 256 }
     {
-        self.count
+        self.transactions.len() as u16
     }
 
     // The transaction that is this vertex; 0 where there is no such vertex.
     pub fn transaction(&self, vertex: u16) -> u16
         ensures { (cs : List ℕ) → Numbers self.now cs → result ≡ slice_index cs vertex }
     {
-        if vertex >= self.count {
-            return 0;
+        match self.transactions.get(vertex as usize) {
+            Some(transaction) => *transaction,
+            None => 0,
         }
-        self.transactions[vertex as usize]
     }
 
     // The transactions, in the order of their vertices.
     pub fn transactions(&self) -> &[u16]
         ensures { (cs : List ℕ) → Numbers self.now cs → result.now ≡ cs }
     {
-        &self.transactions[0..self.count as usize]
+        &self.transactions
     }
 
     // The vertex that is this transaction; none where it has not committed. A vertex is below 256.
@@ -39,7 +40,6 @@ impl Vertices {
         if transaction == 0 || transaction > 256 {
             return None;
         }
-        let place = self.places[transaction as usize - 1];
-        place.checked_sub(1)
+        self.vertices[transaction as usize - 1]
     }
 }

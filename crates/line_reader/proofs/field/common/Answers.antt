@@ -1,27 +1,24 @@
-use Rattle.std.proofs.Common.{arith}
-use Rattle.line_reader.proofs.Levels.{agree_same, agree_other, agree_end_word, agree_end_text}
+use Rattle.std.proofs.Common.{◌≡◌, ℕ, ◌+◌, Bool, eqb, List, [], ◌∷◌, cond, refl, ap, ◌∙◌, rules, tests}
+use Rattle.std.specs.List.{prefix_len, common_prefix_len, zip}
+use Rattle.std.proofs.lemmas.Iterator.{YieldsList-from_zip, YieldsList-from_slice}
+use Rattle.std.proofs.lemmas.Iterator.Consumers.{count_from_yields_List}
+use Rattle.std.proofs.lemmas.Iterator.Search.{YieldsList-from_take_while}
+use Rattle.std.proofs.lemmas.List.Folds.{length-prefix_len}
 use Rattle.line_reader.proofs.field.common.Goals as goal
 
-pub loop-n-preserved : goal.loop-n-preserved
-loop-n-preserved c =
-    let w = c.args.word.now in
-    let s = c.args.text.now in
-    let same = agree_same w s c.loop-n.n (omega arith) (omega arith) (omega arith) in
-    (omega arith, omega arith, omega (arith, same, c.loop-n.invariant.2))
+abbrev same : ℕ × ℕ → Bool
+same p = eqb p.0 p.1
 
-pub returns-else-text-n : goal.returns-else-text-n
-returns-else-text-n c =
-    let w = c.args.word.now in
-    let s = c.args.text.now in
-    let other = agree_other w s c.loop-n.n (omega arith) (omega arith) (λ e. omega arith) in
-    record { agreeing = omega (arith, other, c.loop-n.invariant.2); within = (omega arith, omega arith) }
+prefix_zip : (xs ys : List ℕ) → prefix_len same (zip xs ys) ≡ common_prefix_len eqb xs ys
+prefix_zip [] ys = refl
+prefix_zip (x ∷ xs) [] = refl
+prefix_zip (x ∷ xs) (y ∷ ys) = ap (λ n. cond (eqb x y) (1 + n) 0) (prefix_zip xs ys)
 
-pub returns-else-n-word : goal.returns-else-n-word
-returns-else-n-word c =
-    let end = agree_end_word c.args.word.now c.args.text.now c.loop-n.n (omega arith) in
-    record { agreeing = omega (arith, end, c.loop-n.invariant.2); within = (omega arith, omega arith) }
-
-pub returns-after-loop-n : goal.returns-after-loop-n
-returns-after-loop-n c =
-    let end = agree_end_text c.args.word.now c.args.text.now c.loop-n.n (omega arith) in
-    record { agreeing = omega (arith, end, c.loop-n.invariant.2); within = (omega arith, omega arith) }
+pub returns : goal.returns
+returns c =
+    let xs = c.args.word.now in
+    let ys = c.args.text.now in
+    let pairs = YieldsList-from_zip (YieldsList-from_slice xs cc) (YieldsList-from_slice ys cc) in
+    count_from_yields_List c.take_while.result c.count.result c.count.ensures.ran
+    (YieldsList-from_take_while _ same pairs c.take_while.ensures.closure c.take_while.ensures.done (λ x b q k. search (rules, tests)))
+    ∙ length-prefix_len same (zip xs ys) ∙ prefix_zip xs ys

@@ -1,8 +1,12 @@
-use Rattle.std.proofs.Common.{arith}
+use Rattle.std.proofs.Common.{◌≡◌, length, rules, arith}
 use Rattle.std.proofs.lemmas.Bool.Decides.{nat_tests}
-use Rattle.marks.specs.Members.{marked}
+use Rattle.marks.proofs.Words.{removed, marked_past}
 use Rattle.marks.proofs.Marks.remove.Goals as goal
 
+pub returns-then-mark-lt256 : goal.returns-then-mark-lt256
+returns-then-mark-lt256 c =
+    let long : length c.args.self.now.words ≡ 4 = search rules in
+    removed c.args.self.now c.args.mark (omega arith) (omega arith)
+
 pub returns-else-mark-lt256 : goal.returns-else-mark-lt256
-unfolding marked
-returns-else-mark-lt256 c k = grind (arith, nat_tests)
+returns-else-mark-lt256 c k = let past = marked_past c.args.self.now k in grind (arith, nat_tests)

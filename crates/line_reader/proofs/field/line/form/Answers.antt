@@ -1,4 +1,5 @@
 use Rattle.std.proofs.Common.{◌≡◌, ◌-◌, false, ◌∷◌, length, get_or, take, drop, sym, ap, ◌∙◌, rules}
+use Rattle.events.specs.declared.Event.TheVariants.{Commit, Abort}
 use Rattle.lines.specs.Grammar.{forms, parse}
 use Rattle.line_reader.specs.Parts.{is_letter}
 use Rattle.line_reader.proofs.Bytes.{two_and_rest}
@@ -34,14 +35,14 @@ unfolding parse
 returns-in-c c =
     let s = c.args.text.now in
     let is : s ≡ 99 ∷ 32 ∷ take (length s - 2) (drop 2 s) = search (rules, two_and_rest) in
-    c.commit.ensures ∙ sym (ap (parse forms 1) is)
+    c.alone.ensures Commit (λ t e h k. search rules) ∙ sym (ap (parse forms 1) is)
 
 pub returns-in-a : goal.returns-in-a
 unfolding parse
 returns-in-a c =
     let s = c.args.text.now in
     let is : s ≡ 97 ∷ 32 ∷ take (length s - 2) (drop 2 s) = search (rules, two_and_rest) in
-    c.abort.ensures ∙ sym (ap (parse forms 1) is)
+    c.alone-in-a.ensures Abort (λ t e h k. search rules) ∙ sym (ap (parse forms 1) is)
 
 pub returns-in_default-2 : goal.returns-in_default-2
 returns-in_default-2 c =

@@ -1,11 +1,12 @@
-use Rattle.std.proofs.Common.{get_or, ap, ◌∙◌, arith}
-use Rattle.vertices.proofs.Steps.{get_or_zeros}
+use Rattle.std.proofs.Common.{get_or, None, ap, ◌∙◌, arith, rules}
+use Rattle.vertices.specs.Places.{place_of}
+use Rattle.vertices.proofs.Steps.{no_place}
 use Rattle.vertices.proofs.numbering.Vertices.clear.Goals as goal
 
 pub invariant_of-self : goal.invariant_of-self
 invariant_of-self c = record {
-  long = c.args.self.now.long;
+  few = omega (arith, c.clear.ensures.len);
+  reserved = omega (arith, c.clear.ensures.capacity, c.args.self.now.reserved);
   wide = c.fill.ensures.len ∙ c.args.self.now.wide;
-  few = omega arith;
-  near = λ k. omega (arith, ap (λ l. get_or l k 0) (c.fill.ensures.items (λ y h. h)) ∙ get_or_zeros _ k);
+  near = λ k. omega (arith, ap (λ l. place_of (get_or l k None)) (c.fill.ensures.items (λ y h. search rules)) ∙ no_place _ k);
 }
