@@ -42,7 +42,6 @@ pub fn pack(heap: Global, text: &[u8]) -> Result<Vec<u8>, PackFault>
 {
     let mut recorder: Recorder<Image> = Recorder::empty(heap, CAPACITY)?;
     read_listing(&mut recorder, text)?;
-    let (image, table) = recorder.into_parts();
-    drop(table);
+    let (image, _) = recorder.into_parts();
     Ok(image.into_bytes())
 }
