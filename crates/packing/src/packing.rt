@@ -20,6 +20,7 @@ pub enum PackFault {
     NoMemory,
 }
 
+// By hand, since a derived `From` says nothing of what it makes; so for the next.
 impl From<Fault> for PackFault {
     ghost from_gives = { λ fault r. r ≡ Listing fault };
 
