@@ -76,7 +76,8 @@ impl<'a, G: Graph> Graph for &'a G {
     }
 }
 
-// A lent table of `size` vertices, at most 256; its bytes are as many as the lender has, whatever the size: byte 256 * tail + head has the kinds from tail to head in its four low bits. Bytes past the end count as 0.
+// A lent table of `size` vertices, at most 256: byte 256 * tail + head has the kinds from tail to head in its four low bits. There are as
+// many bytes as the lender has, whatever the size; those past the end count as 0.
 #[derive(Clone, Copy)]
 pub struct Table<'a> {
     pub bytes: &'a [u8],
