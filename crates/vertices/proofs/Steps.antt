@@ -18,7 +18,7 @@ use Rattle.vertices.proofs.Few.{few_numbers}
 pub numbered_range : (t : ℕ) → is_transaction t ≡ true → (0 < t) × (t < 257)
 numbered_range t h = let d = and_parts (ltb 0 t) (ltb t 257) h in (ltb-true 0 t d.0, ltb-true t 257 d.1)
 
-pub number_within : (t : ℕ) → (t ≡ 0 → ⊥) → t ≤ 256 → is_transaction t ≡ true
+number_within : (t : ℕ) → (t ≡ 0 → ⊥) → t ≤ 256 → is_transaction t ≡ true
 number_within t some few = and_from (ltb 0 t) (ltb t 257) (lt-ltb 0 t (omega arith)) (lt-ltb t 257 (omega arith))
 
 place_none : (a : Option ℕ) → is_some a ≡ false → place_of a ≡ 0

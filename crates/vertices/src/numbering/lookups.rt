@@ -32,6 +32,7 @@ impl Vertices {
     }
 
     // The vertex that is this transaction; none where it has not committed. A vertex is below 256.
+    #[tactic(auto, using(crate::proofs::Firsts::first_within))]
     pub fn vertex(&self, transaction: u16) -> Option<u16>
         ensures place { place_of result ≡ first (nat_eq transaction) self.now }
         ensures few { place_of result ≤ 256 }
