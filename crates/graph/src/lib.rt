@@ -10,7 +10,7 @@ mod starts;
 
 pub use starts::{Span, Starts};
 
-// What an edge stands for. A set of kinds is the sum of their bits.
+// What an edge stands for. A set of kinds is the sum of their bits, in one byte, since a table holds it so.
 #[derive(Clone, Copy, PartialEq, Eq, Debug)]
 pub enum Kind {
     // The head wrote the version next after the tail's.
@@ -76,7 +76,8 @@ impl<'a, G: Graph> Graph for &'a G {
     }
 }
 
-// A table of `size` vertices, at most 256: byte 256 * tail + head has the kinds from tail to head in its four low bits. Bytes past the end count as 0.
+// A lent table of `size` vertices, at most 256: byte 256 * tail + head has the kinds from tail to head in its four low bits. There are as
+// many bytes as the lender has, whatever the size; those past the end count as 0.
 #[derive(Clone, Copy)]
 pub struct Table<'a> {
     pub bytes: &'a [u8],

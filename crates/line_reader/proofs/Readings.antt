@@ -1,35 +1,16 @@
 -- What the readers of one field answer, from what their tests found.
-use Rattle.std.proofs.Common.{◌≡◌, ℕ, ◌+◌, ◌-◌, ◌<◌, ◌≤◌, true, List, [], ◌∷◌, ◌++◌, length, get_or, take, drop, Ok, Err, sym, ap, ◌∙◌, ap₂, inl, inr, append_assoc, arith}
-use Rattle.std.proofs.lemmas.List.{take_all, take_at, take-append-drop, length-take-le, length-append}
-use Rattle.std.proofs.lemmas.Bool.Decides.{nat_tests}
+use Rattle.std.proofs.Common.{◌≡◌, ℕ, ◌+◌, ◌-◌, ◌≤◌, List, ◌∷◌, ◌++◌, length, take, drop, Ok, Err, sym, ap, ◌∙◌, ap₂, inl, inr, append_assoc, arith}
+use Rattle.std.proofs.lemmas.List.{take_at, take-append-drop, length-take-le, length-append}
 use Rattle.events.specs.declared.Level.{Level}
 use Rattle.events.specs.Numbers.{code}
 use Rattle.lines.specs.declared.FormFault.{FormFault}
 use Rattle.lines.specs.Lines.{word}
-use Rattle.lines.specs.Grammar.{leads, width, number_on, width_on, Grammar, byte, number, fault_at, parse, level_part, version_part}
-use Rattle.lines.proofs.Numbers.{taken}
+use Rattle.lines.specs.Grammar.{width, Grammar, byte, number, fault_at, parse, level_part, version_part}
 use Rattle.lines.proofs.Steps.{number_on_lem, level_on}
 use Rattle.line_reader.specs.declared.part.Part.{Part}
 use Rattle.line_reader.specs.declared.field.Field.{Field}
 use Rattle.line_reader.specs.Fields.{part_of, end_of, number_of}
 use Rattle.line_reader.specs.Parts.{Leading, Split, parse_part, Past, Passes, LevelBytes}
-
--- the first byte is the digit d, and the number goes on from it
-pub leading_from : (s : List ℕ) (d v n : ℕ) → d < 10 → 1 ≤ length s → get_or s 0 0 ≡ 48 + d
-    → v ≡ number_on d (take (length s - 1) (drop 1 s)) → n ≡ width_on d (take (length s - 1) (drop 1 s)) → Leading s v (n + 1)
-leading_from [] d v n small h first p q = absurd (omega arith)
-leading_from (x ∷ s) d v n small h first p q =
-    let all : take (length (x ∷ s) - 1) s ≡ s = take_all (length (x ∷ s) - 1) s (omega arith) in
-    let is : d ≡ x - 48 = omega arith in
-    let lead : leads (x ∷ s) ≡ true = grind (arith, nat_tests) in
-    let size : n + 1 ≡ width (x ∷ s) = omega (arith, q ∙ ap₂ width_on is all) in
-    let t = taken (x ∷ s) lead in
-    record {
-      led = lead;
-      number_is = p ∙ ap₂ number_on is all;
-      width_is = size;
-      within = omega (arith, t.inside);
-    }
 
 -- where a part is cut
 module _ (n : ℕ) (part first others : Part) (cut : Split n part first others) where

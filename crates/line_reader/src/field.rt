@@ -15,7 +15,7 @@ pub mod line;
 
 // A field of a line: its part of the line, and what that says.
 #[derive(Clone, Copy)]
-pub enum Field<'a> {
+pub(crate) enum Field<'a> {
     Word(Part<'a>, Level),
     Number(Part<'a>, u16),
     Version(Part<'a>, (u16, u16)),

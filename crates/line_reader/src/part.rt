@@ -5,9 +5,9 @@ use lines::FormFault;
 
 // Some bytes of a line, and the column of the first.
 #[derive(Clone, Copy)]
-pub struct Part<'a> {
-    pub text: &'a [u8],
-    pub column: usize,
+pub(crate) struct Part<'a> {
+    pub(crate) text: &'a [u8],
+    pub(crate) column: usize,
     ghost placed: { column + length text.now < 2 ^ 64 },
 }
 
@@ -17,14 +17,14 @@ impl<'a> Part<'a> {
     ghost use Rattle.line_reader.specs.Parts.{Split, Passes};
 
     // The column after the last byte.
-    pub fn end(self) -> usize
+    pub(crate) fn end(self) -> usize
         ensures { result ≡ self.entry.column + length self.entry.text.now }
     {
         self.column + self.text.len()
     }
 
     // The first bytes, and the others.
-    pub fn split_at(self, bytes: usize) -> (Part<'a>, Part<'a>)
+    pub(crate) fn split_at(self, bytes: usize) -> (Part<'a>, Part<'a>)
         requires { bytes ≤ length self.text.now }
         ensures { Split bytes self.entry result.0 result.1 }
     {
@@ -41,7 +41,7 @@ impl<'a> Part<'a> {
     }
 
     // The bytes after the first, which is the mark.
-    pub fn after(self, mark: u8) -> Result<Part<'a>, FormFault>
+    pub(crate) fn after(self, mark: u8) -> Result<Part<'a>, FormFault>
         ensures { Passes mark self.entry result }
     {
         match self.text {
@@ -54,7 +54,7 @@ impl<'a> Part<'a> {
     }
 
     // The fault at the first byte.
-    pub fn fault(self) -> FormFault
+    pub(crate) fn fault(self) -> FormFault
         ensures { result ≡ fault_at self.entry.column }
     {
         FormFault {

@@ -20,6 +20,7 @@ pub enum PackFault {
     NoMemory,
 }
 
+// By hand, since a derived `From` says nothing of what it makes; so for the next.
 impl From<Fault> for PackFault {
     ghost from_gives = { λ fault r. r ≡ Listing fault };
 
@@ -42,7 +43,6 @@ pub fn pack(heap: Global, text: &[u8]) -> Result<Vec<u8>, PackFault>
 {
     let mut recorder: Recorder<Image> = Recorder::empty(heap, CAPACITY)?;
     read_listing(&mut recorder, text)?;
-    let (image, table) = recorder.into_parts();
-    drop(table);
+    let (image, _) = recorder.into_parts();
     Ok(image.into_bytes())
 }

@@ -21,6 +21,7 @@ pub enum UnpackFault {
     NoMemory,
 }
 
+// By hand, since a derived `From` says nothing of what it makes; so for the next.
 impl From<AllocError> for UnpackFault {
     ghost from_gives = { λ _ r. r ≡ NoMemory };
 

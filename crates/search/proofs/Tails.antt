@@ -1,7 +1,6 @@
 -- The sets of tails, one changed at a time, and the tails that a graph has.
-use Rattle.std.proofs.Common.{◌≡◌, ℕ, ◌+◌, ◌<◌, ◌≤◌, Bool, true, false, cond, not, ◌&&◌, ◌||◌, eqb, ltb, List, [], ◌∷◌, ◌++◌, length, get_or, set, is_some, Some, None, Option, sym, ap, ◌∙◌, inl, inr, arith, MatchOption}
-use Rattle.std.proofs.lemmas.List.{get_or-set_same, get_or-set_other, get_or_past, get_or_append_left, length-append}
-use Rattle.std.proofs.Math.Seq.{get_or-append_seam}
+use Rattle.std.proofs.Common.{◌≡◌, ℕ, ◌+◌, ◌<◌, ◌≤◌, Bool, true, false, cond, not, ◌&&◌, ◌||◌, eqb, ltb, List, length, set, is_some, Some, None, Option, sym, ap, ◌∙◌, inl, inr, arith, MatchOption}
+use Rattle.std.proofs.lemmas.List.{get_or-set_same, get_or-set_other, get_or_past}
 use Rattle.std.proofs.lemmas.Bool.{cases_eq, cases_lt, cases_Bool, both_ways}
 use Rattle.std.proofs.lemmas.Bool.Decides.{nat_tests}
 use Rattle.marks.specs.declared.Marks.{Marks}
@@ -68,41 +67,6 @@ module _ {n : ℕ} {edges : ℕ → ℕ → ℕ} (well : WellFormed n edges) whe
   pub joined_head : (t h : ℕ) → joined edges t h ≡ true → h < n
   joined_head t h j =
       elim (cases_lt h n) [ inl l ↦ l | inr l ↦ absurd (both_ways (joined edges t h) (ap (λ (x : ℕ). ltb 0 x) (well.heads t h l)) j) ]
-
-  -- no head yet
-  pub tails_none : (t h : ℕ) → tail [] t h ≡ (ltb h 0 && joined edges t h)
-  tails_none t h = let none = tail_past [] t h (omega arith) in grind (arith, nat_tests)
-
-  -- one head more
-  pub tails_more : (tails : List Marks) (m : Marks) (i : ℕ) → length tails ≡ i → ((t h : ℕ) → tail tails t h ≡ (ltb h i && joined edges t h))
-      → ((t : ℕ) → marked m t ≡ joined edges t i) → (t h : ℕ) → tail (tails ++ m ∷ []) t h ≡ (ltb h (i + 1) && joined edges t h)
-  tails_more tails m i long inv put t h =
-      elim (cases_eq h i) [
-        | inl e ↦
-            let last : tail (tails ++ m ∷ []) t h ≡ joined edges t h =
-            ap (λ (k : ℕ). marked (get_or (tails ++ m ∷ []) k unmarked) t) (e ∙ sym long) ∙ ap (λ (x : Marks). marked x t) (get_or-append_seam tails m [] unmarked)
-            ∙ put t ∙ ap (joined edges t) (sym e)
-            in
-            grind (arith, nat_tests)
-        | inr n ↦
-            elim (cases_lt h i) [
-              | inl l ↦
-                  let same : tail (tails ++ m ∷ []) t h ≡ tail tails t h = ap (λ (x : Marks). marked x t) (get_or_append_left tails (m ∷ []) unmarked h (omega arith)) in
-                  let was = inv t h in
-                  grind (arith, nat_tests)
-              | inr l ↦ let none = tail_past (tails ++ m ∷ []) t h (omega (arith, length-append tails (m ∷ []))) in grind (arith, nat_tests)
-            ]
-      ]
-
-  -- all heads
-  pub tails_all : (tails : List Marks) (i : ℕ) → n ≤ i → ((t h : ℕ) → tail tails t h ≡ (ltb h i && joined edges t h))
-      → (t h : ℕ) → tail tails t h ≡ joined edges t h
-  tails_all tails i l inv t h =
-      let a = inv t h in
-      elim (cases_Bool (joined edges t h)) [
-        | inl j ↦ let few = joined_head t h j in grind (arith, nat_tests)
-        | inr j ↦ grind (arith, nat_tests)
-      ]
 
 -- ---- a placed vertex taken out of the sets, head by head
 

@@ -16,7 +16,7 @@ use arrayvec::ArrayVec;
 use graph::Graph;
 use marks::Marks;
 
-// What the report begins with, and how many vertices that are.
+// What the report begins with, and how many vertices that are. Either is what was asked for, so this is no Result: a walk is no failure.
 #[derive(Clone, Copy, PartialEq, Eq, Debug)]
 pub enum Found {
     // The order of all vertices.
@@ -29,7 +29,7 @@ pub enum Found {
 #[derive(Clone, Copy, PartialEq, Eq, Debug)]
 pub struct Short;
 
-// The tails of a head.
+// The tails of a head. Loops like this one go over vertices, which are numbers and stand in no list.
 fn tails_at<G: Graph>(graph: &G, head: usize) -> Marks
     ensures { (t : ℕ) → marked result t ≡ joined (G.Graph.edges graph.now) t head }
 {

@@ -34,23 +34,14 @@ impl<'a, G: Graph> Graph for Counted<'a, G> {
     }
 }
 
-// Every vertex joined to every later one.
-fn dense(heap: Global) -> Result<Vec<u8>, AllocError> {
-    let mut bytes = vec![in heap; 0; 65536]?;
-    for (at, byte) in bytes.iter_mut().enumerate() {
-        if at / 256 < at % 256 {
-            *byte = 1;
-        }
-    }
-    Ok(bytes)
-}
-
-// Every vertex joined to the next, and the last to the first.
-fn ring(heap: Global) -> Result<Vec<u8>, AllocError> {
-    let mut bytes = vec![in heap; 0; 65536]?;
-    for (at, byte) in bytes.iter_mut().enumerate() {
-        if (at / 256 + 1) % 256 == at % 256 {
-            *byte = 1;
+// The bytes of a table of 256 vertices, joined where a test of tail and head says so.
+fn joined_where<F: Fn(u8, u8) -> bool>(heap: Global, joined: F) -> Result<Vec<u8>, AllocError>
+    requires { F.IsAlwaysCallable joined }
+{
+    let mut bytes = Vec::with_capacity(heap, 65536)?;
+    for tail in 0..=255 {
+        for head in 0..=255 {
+            bytes.push(u8::from(joined(tail, head)))?;
         }
     }
     Ok(bytes)
@@ -84,6 +75,10 @@ fn tell(rt: &HostRuntime, name: &str, bytes: &[u8]) -> io::Result<()> {
 }
 
 fn main(rt: HostRuntime) -> io::Result<()> {
-    tell(&rt, "dense", dense(rt.alloc())?.as_slice())?;
-    tell(&rt, "ring", ring(rt.alloc())?.as_slice())
+    // Every vertex joined to every later one.
+    let dense = joined_where(rt.alloc(), |tail, head| tail < head)?;
+    tell(&rt, "dense", &dense)?;
+    // Every vertex joined to the next, and the last to the first.
+    let ring = joined_where(rt.alloc(), |tail, head| tail.wrapping_add(1) == head)?;
+    tell(&rt, "ring", &ring)
 }

@@ -2,28 +2,32 @@
 use super::*;
 use graph::{Kind, Span, Starts, Table};
 use std::alloc::{AllocError, Global};
+use std::array;
 use std::process::Abort;
 use std::test::Fail;
 
 // What an entry of the report holds before a search.
 const BEFORE: u16 = 777;
 
-const CHAIN: [(u8, u8, Kind); 3] = [(0, 1, Kind::Ww), (1, 2, Kind::Rw), (2, 3, Kind::Ww)];
+// A tail, a head and what the edge between them stands for.
+type Edge = (u8, u8, Kind);
 
-const REVERSE: [(u8, u8, Kind); 3] = [(3, 2, Kind::Ww), (2, 1, Kind::Rw), (1, 0, Kind::Ww)];
+const CHAIN: [Edge; 3] = [(0, 1, Kind::Ww), (1, 2, Kind::Rw), (2, 3, Kind::Ww)];
+
+const REVERSE: [Edge; 3] = [(3, 2, Kind::Ww), (2, 1, Kind::Rw), (1, 0, Kind::Ww)];
 
 // Two chains that cross in 2.
-const CROSSING: [(u8, u8, Kind); 4] = [
+const CROSSING: [Edge; 4] = [
     (0, 2, Kind::Ww),
     (2, 4, Kind::Ww),
     (3, 2, Kind::Rw),
     (2, 1, Kind::Rw),
 ];
 
-const CYCLE: [(u8, u8, Kind); 2] = [(0, 1, Kind::Ww), (1, 0, Kind::Rw)];
+const CYCLE: [Edge; 2] = [(0, 1, Kind::Ww), (1, 0, Kind::Rw)];
 
 // A cycle of the last three vertices.
-const LAST_THREE: [(u8, u8, Kind); 3] = [
+const LAST_THREE: [Edge; 3] = [
     (253, 254, Kind::Wr),
     (254, 255, Kind::Wr),
     (255, 253, Kind::Wr),
@@ -31,7 +35,7 @@ const LAST_THREE: [(u8, u8, Kind); 3] = [
 
 // A table's size and edges, the kinds that the search sees, what it finds, and the order where it is one.
 #[derive(Clone, Copy)]
-struct Case<'a>(usize, &'a [(u8, u8, Kind)], u8, Found, &'a [u16]);
+struct Case<'a>(usize, &'a [Edge], u8, Found, &'a [u16]);
 
 fn join(bytes: &mut [u8], tail: u8, head: u8, kind: Kind) {
     if let Some(kinds) = bytes.get_mut(256 * usize::from(tail) + usize::from(head)) {
@@ -39,7 +43,7 @@ fn join(bytes: &mut [u8], tail: u8, head: u8, kind: Kind) {
     }
 }
 
-fn table(heap: Global, edges: &[(u8, u8, Kind)]) -> Result<Vec<u8>, AllocError> {
+fn table(heap: Global, edges: &[Edge]) -> Result<Vec<u8>, AllocError> {
     let mut bytes = vec![in heap; 0; 65536]?;
     for (tail, head, kind) in edges {
         join(&mut bytes, *tail, *head, *kind);
@@ -107,13 +111,12 @@ fn small_graphs(rt: HostRuntime) -> Result<(), Fail> {
 #[test]
 fn all_vertices(rt: HostRuntime) -> Result<(), Fail> {
     let heap = rt.alloc();
-    let mut falling = [0; 256];
+    let falling: [u16; 256] = array::from_fn(|at| 255 - at as u16);
     let mut reverse = table(heap, &[])?;
     let mut cycle = table(heap, &[])?;
     let mut into_cycle = table(heap, &LAST_THREE)?;
     let mut out_of_cycle = table(heap, &LAST_THREE)?;
     for v in 0..=255u8 {
-        falling[usize::from(v)] = 255 - u16::from(v);
         join(&mut reverse, v, v.saturating_sub(1), Kind::Rw);
         join(&mut cycle, v, v.wrapping_add(1), Kind::Wr);
         join(&mut into_cycle, v.min(252), v.min(252) + 1, Kind::Ww);

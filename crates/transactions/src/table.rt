@@ -7,7 +7,7 @@ mod calls;
 mod lookups;
 
 // How far a transaction has come.
-#[derive(Clone, Copy)]
+#[derive(Clone, Copy, PartialEq, Eq, Debug)]
 pub enum Stage {
     NotBegun,
     Running,
@@ -15,8 +15,9 @@ pub enum Stage {
     Aborted,
 }
 
-// What is known of a transaction. A position is 0 where there is no such event.
-#[derive(Clone, Copy)]
+// What is known of a transaction. A position is 0 where there is no such event, as in the rules, which compare positions
+// as numbers: an `Option` would be taken apart wherever one is read.
+#[derive(Clone, Copy, PartialEq, Eq, Debug)]
 pub struct Entry {
     pub stage: Stage,
     pub level: Option<Level>,
@@ -24,15 +25,15 @@ pub struct Entry {
     pub commit: u16,
 }
 
-// What is known of a transaction's writes of an item: how many, and the position of the last, 0 where there is none.
-#[derive(Clone, Copy)]
+// What is known of a transaction's writes of an item: how many, and the position of the last, 0 where there is none, as above.
+#[derive(Clone, Copy, PartialEq, Eq, Debug)]
 pub struct Modifications {
     pub made: u16,
     pub last: u16,
 }
 
 // An entry for each of 256 transactions, the modifications for each of them and each of 1,024 items, and how many events
-// have entered.
+// have entered. Which list of events it tracks is a premise of its promises, and no ghost field: those hold facts and no lists.
 #[derive(Drop)]
 pub struct TransactionTable {
     entries: Vec<Entry>,

@@ -22,7 +22,8 @@ pub fn read_line(text: &[u8]) -> Result<(Event, usize), FormFault>
     Ok((event, column - 1))
 }
 
-// The form that the letter names: its event, and the column after its line.
+// The form that the letter names: its event, and the column after its line. A match, and no table of functions: the letters are
+// the cases of the format.
 fn form(text: &[u8]) -> Result<(Event, usize), FormFault>
     ensures { result ≡ parse forms 1 text.now }
 {

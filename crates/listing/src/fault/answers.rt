@@ -77,7 +77,7 @@ impl fmt::Display for Fault {
 }
 
 impl WriteFault {
-    // The number of the question that answers no.
+    // The number of the question that answers no. By a match, as that of a refusal.
     pub fn number(self) -> u16
         ensures { result ≡ write_number self }
     {

@@ -1,5 +1,5 @@
 use Rattle.std.proofs.Common.{length, ap, ◌∙◌, arith}
-use Rattle.search.proofs.Ends.{is_order_lem, is_walk_lem, goes_on, same_tails}
+use Rattle.search.proofs.Ends.{is_order_lem, is_walk_lem, same_tails}
 use Rattle.search.proofs.search_into.Goals as goal
 
 pub returns-in-None : goal.returns-in-None
@@ -10,11 +10,6 @@ returns-in-None g c =
     c.in-None.ensures _ c.write.ensures.front
     in
     (c.write.ensures.count ∙ whole.0, whole.1, c.write.ensures.rest)
-
-pub follow-requires : goal.follow-requires
-follow-requires g c =
-    let p = c.place_all-placed.ensures in
-    record { few = omega (arith, (g.G.Graph.well c.args.graph.now).few, c.tails_of-tails.ensures.each, ap length c.as_mut_slice-tails.ensures.value, c.place_all-placed.auto.tails); begins = p.stuck c.in-Some.vertex c.in-Some.ensures.0; continues = goes_on p }
 
 pub returns-in-Some : goal.returns-in-Some
 returns-in-Some g c =

@@ -1,14 +1,10 @@
 use Rattle.std.proofs.Common.{◌≡◌, ◌&&◌, ◌||◌, eqb, ap, inl, inr, arith}
-use Rattle.std.proofs.lemmas.Bool.{cases_eq, cases_Bool}
+use Rattle.std.proofs.lemmas.Bool.{cases_eq}
 use Rattle.std.proofs.lemmas.Bool.Decides.{nat_tests}
 use Rattle.graph.specs.Edges.{joined}
 use Rattle.marks.specs.Members.{marked}
-use Rattle.search.proofs.Tails.{joined_tail}
 use Rattle.search.proofs.tails_at.Goals as goal
 use Rattle.search.proofs.tails_at.Goals.{then-kinds-ne0, else-kinds-ne0}
-
-pub loop-vertex-init : goal.loop-vertex-init
-loop-vertex-init g c t = let none = c.new-tails.ensures t in grind (arith, nat_tests)
 
 pub loop-vertex-preserved : goal.loop-vertex-preserved
 loop-vertex-preserved g c t =
@@ -25,12 +21,4 @@ loop-vertex-preserved g c t =
     elim (cases_eq t v) [
       | inl e ↦ let same = ap (λ x. joined edges x c.args.head) e in grind (arith, nat_tests)
       | inr n ↦ grind (arith, nat_tests)
-    ]
-
-pub returns : goal.returns
-returns g c t =
-    let was = c.loop-vertex.invariant t in
-    elim (cases_Bool (joined (g.G.Graph.edges c.args.graph.now) t c.args.head)) [
-      | inl j ↦ let few = joined_tail (g.G.Graph.well c.args.graph.now) t c.args.head j in grind (arith, nat_tests)
-      | inr j ↦ grind (arith, nat_tests)
     ]

@@ -1,9 +1,6 @@
-use Rattle.std.proofs.Common.{◌≡◌, ℕ, ◌≤◌, List, Result, Ok, Err, IsErrAnd, MatchResult, [], sym, drop, vec_items, ap, ◌∙◌, subst, arith}
-use Rattle.events.specs.Questions.{unfit_at}
-use Rattle.lines.specs.Lines.{listing}
+use Rattle.std.proofs.Common.{◌≡◌, ℕ, List, Result, Ok, Err, IsErrAnd, MatchResult, sym, vec_items, subst, arith}
 use Rattle.image.specs.Chains.{events_of}
 use Rattle.image.specs.Openings.{Refuses}
-use Rattle.listing.proofs.Writings.{cut_down}
 use Rattle.image.specs.declared.OpenFault.{OpenFault}
 use Rattle.image.specs.declared.OpenFault.TheVariants.{Refused, NoMemory}
 use Rattle.packing.specs.Unpacks.{Unpacks, Declines, fault_of}
@@ -19,18 +16,6 @@ opening_declines NoMemory bytes k = tt
 unopened_declines : {V : Type 0} (r : Result V UnpackFault) (why : OpenFault) (bytes : List ℕ) (P : V → Type 0) → IsErrAnd r (λ fault. fault ≡ fault_of why) → Refuses why bytes → MatchResult r P (Declines bytes)
 unopened_declines (Ok text) why bytes P h k = absurd h
 unopened_declines (Err fault) why bytes P h k = subst (Declines bytes) (sym h) (opening_declines why bytes k)
-
-pub returns-in-Ok : goal.returns-in-Ok
-returns-in-Ok c =
-    let es = events_of (vec_items c.in_ok-image.image.bytes) in
-    let w = c.in-Ok.ensures in
-    let n = c.in-Ok.length in
-    let q = ap (λ v. events_of (vec_items v)) c.in_ok-image.ensures.0 in
-    let room : n ≤ c.in_ok-text.text.len = omega (arith, w.2, c.deref_mut.ensures.len) in (
-      c.in_ok-image.ensures.1,
-      subst (λ l. unfit_at [] l ≡ 0) q w.0,
-      c.truncate.ensures.items ∙ cut_down (listing es) (drop n c.deref_mut.result.now) _ c.write_listing.new.text n c.in_ok-text.text.len w.1 room w.3 ∙ ap listing q,
-    )
 
 pub unreachable-requires : goal.unreachable-requires
 unreachable-requires c =

@@ -6,9 +6,6 @@ use Rattle.line_reader.proofs.Bytes.{two_and_rest}
 use Rattle.line_reader.proofs.Letters.{no_letter}
 use Rattle.line_reader.proofs.field.line.form.Goals as goal
 
-pub unlettered-requires : goal.unlettered-requires
-unlettered-requires c = search rules
-
 pub returns-in-b : goal.returns-in-b
 unfolding parse
 returns-in-b c =
