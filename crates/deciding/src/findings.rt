@@ -5,7 +5,6 @@ ghost use Rattle.events.specs.Questions.{unfit_at};
 ghost use Rattle.transactions.specs.Tracks.{Tracks};
 ghost use Rattle.verdicts.specs.Versions.{committed};
 ghost use Rattle.verdicts.specs.Tables.{ShowsKinds};
-ghost use Rattle.vertices.specs.Numbering.{Numbers};
 ghost use Rattle.deciding.specs.Decisions.{count_of, decision_of, Settles, Decides};
 ghost use Rattle.deciding.specs.Searches.{found_count};
 
@@ -56,7 +55,7 @@ impl Edges<'_> {
     // they stand one after the other.
     fn settle(&self, real_time: bool, found: &mut [u16; 256]) -> Decision
         ensures few { count_of result ≤ 256 }
-        ensures settled { (rank : ℕ → ℕ → ℕ) (es : List AnEvent) → Tracks self.now.table.now es → Numbers self.now.vertices.now (committed es) → unfit_at [] es ≡ 0 → ShowsKinds rank es self.now.bytes.now → Settles rank es real_time result found.new }
+        ensures settled { (rank : ℕ → ℕ → ℕ) (es : List AnEvent) → Tracks self.now.table.now es → self.now.vertices.now ≡ committed es → unfit_at [] es ≡ 0 → ShowsKinds rank es self.now.bytes.now → Settles rank es real_time result found.new }
     {
         let by_ww = self.search_kinds(G0_KINDS, found);
         if let Found::Walk(_) = by_ww {
@@ -89,7 +88,7 @@ pub fn decide(
 ) -> Result<Decision, Short>
     ensures refused { MatchResult result (λ _. 256 ≤ length report.old) (λ _. (length report.old < 256) × (report.new ≡ report.old)) }
     ensures later { MatchResult result (λ d. (count_of d ≤ 256) × (drop (count_of d) report.new ≡ drop (count_of d) report.old)) (λ _. report.new ≡ report.old) }
-    ensures decided { MatchResult result (λ d. (rank : ℕ → ℕ → ℕ) (es : List AnEvent) → Tracks table.now es → Numbers vertices.now (committed es) → unfit_at [] es ≡ 0 → ShowsKinds rank es bytes.now → Decides rank es real_time d report.new) (λ _. report.new ≡ report.old) }
+    ensures decided { MatchResult result (λ d. (rank : ℕ → ℕ → ℕ) (es : List AnEvent) → Tracks table.now es → vertices.now ≡ committed es → unfit_at [] es ≡ 0 → ShowsKinds rank es bytes.now → Decides rank es real_time d report.new) (λ _. report.new ≡ report.old) }
 {
     if report.len() < 256 {
         return Err(Short);

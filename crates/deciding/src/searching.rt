@@ -9,7 +9,6 @@ ghost use Rattle.transactions.specs.Tracks.{Tracks};
 ghost use Rattle.verdicts.specs.Versions.{committed};
 ghost use Rattle.verdicts.specs.Edges.{every_kind};
 ghost use Rattle.verdicts.specs.Tables.{ShowsKinds};
-ghost use Rattle.vertices.specs.Numbering.{Numbers};
 ghost use Rattle.vertex_laws.specs.Vertices.{named};
 ghost use Rattle.vertex_laws.specs.Laws.{ShowsEdges};
 ghost use Rattle.deciding.specs.Searches.{Searched, found_count};
@@ -43,7 +42,7 @@ impl<'a> Edges<'a> {
     // Searches along kinds of the table, by a set of bits that shows the edges of these kinds.
     pub(crate) fn search_kinds(&self, set: u8, found: &mut [u16; 256]) -> Found
         ensures few { found_count result ≤ 256 }
-        ensures searched { (rank : ℕ → ℕ → ℕ) (es : List AnEvent) (real_time : Bool) (kinds : List AKind) → Numbers self.now.vertices.now (committed es) → unfit_at [] es ≡ 0 → ShowsEdges rank es real_time kinds (length (committed es)) (joined (filtered (tabled (length (committed es)) self.now.bytes.now) set)) → Searched rank es real_time kinds found.new result }
+        ensures searched { (rank : ℕ → ℕ → ℕ) (es : List AnEvent) (real_time : Bool) (kinds : List AKind) → self.now.vertices.now ≡ committed es → unfit_at [] es ≡ 0 → ShowsEdges rank es real_time kinds (length (committed es)) (joined (filtered (tabled (length (committed es)) self.now.bytes.now) set)) → Searched rank es real_time kinds found.new result }
     {
         let graph = self.kinds();
         search_in(&Filter { graph, kinds: set }, found)
@@ -52,7 +51,7 @@ impl<'a> Edges<'a> {
     // Searches along all kinds, with real time on: those of the table and the start edges.
     pub(crate) fn search_all(&self, found: &mut [u16; 256]) -> Found
         ensures few { found_count result ≤ 256 }
-        ensures searched { (rank : ℕ → ℕ → ℕ) (es : List AnEvent) → Tracks self.now.table.now es → Numbers self.now.vertices.now (committed es) → unfit_at [] es ≡ 0 → ShowsKinds rank es self.now.bytes.now → Searched rank es true every_kind found.new result }
+        ensures searched { (rank : ℕ → ℕ → ℕ) (es : List AnEvent) → Tracks self.now.table.now es → self.now.vertices.now ≡ committed es → unfit_at [] es ≡ 0 → ShowsKinds rank es self.now.bytes.now → Searched rank es true every_kind found.new result }
     {
         let spans = spans_of(self.table, self.vertices);
         let graph = Union {
@@ -67,7 +66,7 @@ impl<'a> Edges<'a> {
     // The edges of the table.
     fn kinds(&self) -> Table<'a>
         ensures bytes { result.bytes.now ≡ self.now.bytes.now }
-        ensures all { (cs : List ℕ) → Numbers self.now.vertices.now cs → result.size ≡ length cs }
+        ensures all { result.size ≡ length self.now.vertices.now }
         ensures few { result.size ≤ 256 }
     {
         Table {
@@ -81,7 +80,7 @@ impl<'a> Edges<'a> {
 // through an adapter of iter_mut, a proof knows nothing.
 pub(crate) fn write_names(vertices: &Vertices, found: &[u16; 256], count: usize, report: &mut [u16])
     requires { (count ≤ 256) × (256 ≤ length report.old) }
-    ensures names { (cs : List ℕ) → Numbers vertices.now cs → take count report.new ≡ named cs (take count found.now) }
+    ensures names { take count report.new ≡ named vertices.now (take count found.now) }
     ensures later { drop count report.new ≡ drop count report.old }
 {
     for place in 0..count {

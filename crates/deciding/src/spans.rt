@@ -4,7 +4,6 @@ ghost use Rattle.events.specs.declared.Event.{Event as AnEvent};
 ghost use Rattle.graph.specs.Starts.{begins_of, ends_of};
 ghost use Rattle.transactions.specs.Tracks.{Tracks};
 ghost use Rattle.verdicts.specs.Versions.{committed};
-ghost use Rattle.vertices.specs.Numbering.{Numbers};
 ghost use Rattle.vertex_laws.specs.Laws.{Spans};
 
 use arrayvec::ArrayVec;
@@ -14,7 +13,7 @@ use vertices::Vertices;
 
 // The positions of all begins and commits, by vertex.
 pub(crate) fn spans_of(table: &TransactionTable, vertices: &Vertices) -> ArrayVec<Span, 256>
-    ensures { (es : List AnEvent) → Tracks table.now es → Numbers vertices.now (committed es) → Spans es (begins_of result.items) (ends_of result.items) }
+    ensures { (es : List AnEvent) → Tracks table.now es → vertices.now ≡ committed es → Spans es (begins_of result.items) (ends_of result.items) }
 {
     let mut spans = ArrayVec::new();
     for vertex in 0..vertices.count() {

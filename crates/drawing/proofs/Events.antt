@@ -172,7 +172,7 @@ module _ (rank : ℕ → ℕ → ℕ) (es : List Event) where
 -- bytes that are as long as they were are enough still
 pub still_drawable : (table : TransactionTable) (vertices : Vertices) (es : List Event) (before after : List ℕ) → length after ≡ length before
     → Drawable table vertices es before → Drawable table vertices es after
-still_drawable table vertices es before after same d = record { tracks = d.tracks; numbers = d.numbers; fit = d.fit; enough = omega (arith, d.enough) }
+still_drawable table vertices es before after same d = record { tracks = d.tracks; listed = d.listed; fit = d.fit; enough = omega (arith, d.enough) }
 
 -- what is drawable by a table and vertices is so by others that are the same
 pub drawable_by : (table table' : TransactionTable) (vertices vertices' : Vertices) → table' ≡ table → vertices' ≡ vertices → (es : List Event) (bytes : List ℕ) → Drawable table vertices es bytes → Drawable table' vertices' es bytes

@@ -1,17 +1,16 @@
 -- Bytes that show sets of edges, with one edge more, or with none.
-use Rattle.std.proofs.Common.{◌≡◌, ℕ, ◌+◌, ◌<◌, Bool, true, false, cond, not, ◌&&◌, ◌||◌, eqb, ◌≢◌, ◌⊎◌, List, sym, refl, ap, ◌∙◌, inl, inr, arith}
+use Rattle.std.proofs.Common.{◌≡◌, ℕ, ◌+◌, ◌<◌, Bool, true, false, cond, not, ◌&&◌, ◌||◌, eqb, ◌≢◌, ◌⊎◌, List, [], sym, refl, ap, ◌∙◌, inl, inr, arith}
 use lib.Bits.{bit_or}
 use Rattle.std.proofs.lemmas.Bool.{cases_Bool, and_parts, and_from, and_left, and_right, cond-true, cond-false, eqb-true, eq-eqb, ne_eqb, le-ltb, not_from_true, not_from_false}
 use Rattle.events.specs.declared.Event.{Event}
 use Rattle.events.specs.Lists.{first}
 use Rattle.events.specs.Runs.{has_committed}
+use Rattle.events.specs.Questions.{unfit_at}
 use Rattle.graph.specs.declared.Kind.{Kind}
 use Rattle.graph.specs.Kinds.{bit_of}
 use Rattle.verdicts.specs.Versions.{committed}
 use Rattle.verdicts.specs.Edges.{apart}
 use Rattle.verdicts.specs.Tables.{byte}
-use Rattle.vertices.specs.declared.numbering.Vertices.{Vertices}
-use Rattle.vertices.specs.Numbering.{Numbers}
 use Rattle.vertices.proofs.Commits.{committed_first, committed_from_first}
 use Rattle.vertices.proofs.Members.{place_of}
 use Rattle.drawing.specs.EdgeSets.{EdgeSet, sum_of, edge, adding, Shows}
@@ -80,12 +79,12 @@ module _ (es : List Event) where
       shows_no_edge why bytes = shows_none kind set bytes (edge t u) (no_edge (not_apart why))
 
       -- an edge between two vertices
-      pub shows_edge : (v : Vertices) → Numbers v (committed es) → (p q : ℕ) → p + 1 ≡ first (eqb t) (committed es) → q + 1 ≡ first (eqb u) (committed es) → t ≢ u
+      pub shows_edge : unfit_at [] es ≡ 0 → (p q : ℕ) → p + 1 ≡ first (eqb t) (committed es) → q + 1 ≡ first (eqb u) (committed es) → t ≢ u
           → (before after : List ℕ) → ((a b : ℕ) → a < 256 → b < 256 → byte after a b ≡ cond (eqb a p && eqb b q) (bit_or (byte before a b) (bit_of kind)) (byte before a b))
           → Shows es set before → Shows es (adding kind (edge t u) set) after
       unfolding Shows
-      shows_edge v numbers p q at_p at_q n =
-          grid_more (committed es) (place_of v (committed es) numbers) t u p q (bit_of kind) few more at_p at_q
+      shows_edge fit p q at_p at_q n =
+          grid_more (committed es) (place_of es fit) t u p q (bit_of kind) few more at_p at_q
           (λ i j off. sym (grown i j ∙ cond-false (apart es i j && edge t u i j) (bit_or (few i j) (bit_of kind)) (few i j) (and_right (apart es i j) (edge t u i j) off)))
           (sym (grown t u ∙ cond-true (apart es t u && edge t u t u) (bit_or (few t u) (bit_of kind)) (few t u) on))
         where

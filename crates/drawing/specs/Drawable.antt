@@ -6,11 +6,10 @@ use Rattle.transactions.specs.declared.table.TransactionTable.{TransactionTable}
 use Rattle.transactions.specs.Tracks.{Tracks}
 use Rattle.verdicts.specs.Versions.{committed}
 use Rattle.vertices.specs.declared.numbering.Vertices.{Vertices}
-use Rattle.vertices.specs.Numbering.{Numbers}
 
 -- the table tracks an admitted run, the vertices are its committed transactions, and there is a byte for each tail and head
 pub record Drawable (table : TransactionTable) (vertices : Vertices) (es : List Event) (bytes : List ℕ) : Type 0 where
   pub tracks : Tracks table es
-  pub numbers : Numbers vertices (committed es)
+  pub listed : vertices ≡ committed es
   pub fit : unfit_at [] es ≡ 0
   pub enough : 65536 ≤ length bytes

@@ -1,10 +1,10 @@
 // The edges of a write and of a read.
-ghost use Rattle.std.specs.Prelude.{◌≡◌, ℕ, ◌≤◌, List, length, drop};
+ghost use Rattle.std.specs.Prelude.{◌≡◌, ℕ, ◌≤◌, List, [], length, drop};
 ghost use Rattle.events.specs.declared.Event.{Event as AnEvent};
 ghost use Rattle.events.specs.declared.Event.TheVariants.{Write, Read};
+ghost use Rattle.events.specs.Questions.{unfit_at};
 ghost use Rattle.graph.specs.declared.Kind.TheVariants.{Ww, Wr, Rw};
 ghost use Rattle.verdicts.specs.Versions.{committed};
-ghost use Rattle.vertices.specs.Numbering.{Numbers};
 ghost use Rattle.drawing.specs.Drawable.{Drawable};
 ghost use Rattle.drawing.specs.EdgeSets.{EdgeSet, Shows, adding, edge, draws, drawing};
 
@@ -21,7 +21,7 @@ use vertices::Vertices;
 pub struct Drawing<'a, O> {
     versions: Versions<'a, O>,
     vertices: &'a Vertices,
-    ghost listed: { (cs : List ℕ) → Numbers vertices.now cs → versions.committed.now ≡ cs },
+    ghost listed: { versions.committed.now ≡ vertices.now },
 }
 
 impl<'a, O: VersionOrder> Drawing<'a, O> {
@@ -39,7 +39,7 @@ impl<'a, O: VersionOrder> Drawing<'a, O> {
 
     // Draws an edge; none where its ends are one transaction, or one of them has not committed.
     fn join(&self, tail: u16, head: u16, kind: Kind, bytes: &mut [u8])
-        ensures shows { (es : List AnEvent) (set : EdgeSet) → Numbers self.now.vertices.now (committed es) → 65536 ≤ length bytes.old → Shows es set bytes.old → Shows es (adding kind (edge tail head) set) bytes.new }
+        ensures shows { (es : List AnEvent) (set : EdgeSet) → self.now.vertices.now ≡ committed es → unfit_at [] es ≡ 0 → 65536 ≤ length bytes.old → Shows es set bytes.old → Shows es (adding kind (edge tail head) set) bytes.new }
         ensures later { drop 65536 bytes.new ≡ drop 65536 bytes.old }
     {
         if tail == head {

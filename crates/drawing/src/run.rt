@@ -5,7 +5,6 @@ ghost use Rattle.events.specs.Questions.{unfit_at};
 ghost use Rattle.transactions.specs.Tracks.{Tracks};
 ghost use Rattle.verdicts.specs.Versions.{committed};
 ghost use Rattle.verdicts.specs.Tables.{Drawn};
-ghost use Rattle.vertices.specs.Numbering.{Numbers};
 ghost use Rattle.drawing.specs.Drawable.{Drawable};
 ghost use Rattle.drawing.specs.EdgeSets.{EdgeSet, Shows, drawing};
 
@@ -26,7 +25,7 @@ pub fn draw<H: History, O: VersionOrder>(
     order: &O,
     bytes: &mut [u8],
 )
-    ensures drawn { Tracks table.now (H.events history.now) → Numbers vertices.now (committed (H.events history.now)) → unfit_at [] (H.events history.now) ≡ 0 → 65536 ≤ length bytes.old → Drawn (O.ranks order.now) (H.events history.now) bytes.old bytes.new }
+    ensures drawn { Tracks table.now (H.events history.now) → vertices.now ≡ committed (H.events history.now) → unfit_at [] (H.events history.now) ≡ 0 → 65536 ≤ length bytes.old → Drawn (O.ranks order.now) (H.events history.now) bytes.old bytes.new }
     ensures later { drop 65536 bytes.new ≡ drop 65536 bytes.old }
 {
     let drawing = Drawing::of(table, vertices, order);

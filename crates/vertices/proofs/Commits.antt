@@ -1,21 +1,24 @@
 -- The committed transactions of a run: who is among them, and what one more event adds.
-use Rattle.std.proofs.Common.{◌≡◌, ℕ, ◌+◌, ◌<◌, Bool, true, false, cond, not, ◌||◌, eqb, ltb, List, [], ◌∷◌, ◌++◌, map, length, get_or, take, drop, filter, sym, refl, ap, ◌∙◌, subst, append-nil}
+use Rattle.std.proofs.Common.{◌≡◌, ℕ, ◌+◌, ◌<◌, ◌≤◌, Bool, true, false, cond, not, ◌||◌, eqb, ltb, List, [], ◌∷◌, ◌++◌, map, length, get_or, take, drop, filter, sym, refl, ap, ◌∙◌, subst, inl, inr, append-nil, arith}
 use mathlib.Core.List.{map-append}
 use Rattle.std.proofs.lemmas.List.Elements.{filter-append}
 use Rattle.std.proofs.lemmas.List.{drop_more, take-append-drop}
-use Rattle.std.proofs.lemmas.Bool.{and_parts, or_parts, not-true, ltb-true, lt-ltb}
+use Rattle.std.proofs.lemmas.Bool.{and_parts, or_parts, not-true, ltb-true, lt-ltb, eq-eqb, cases_Bool}
 use Rattle.events.specs.declared.Event.{Event}
 use Rattle.events.specs.declared.Event.TheVariants.{Blank, Begin, Read, Write, Commit, Abort}
-use Rattle.events.specs.Lists.{first}
+use Rattle.events.specs.Lists.{count, every, first}
 use Rattle.events.specs.Fields.{transaction_of, is_commit}
 use Rattle.events.specs.Runs.{begun, has_committed, has_aborted}
 use Rattle.events.specs.Questions.{is_transaction, question, unfit_at}
 use Rattle.events.proofs.Pushes.{first_none}
-use Rattle.events.proofs.Fronts.{fit_at}
+use Rattle.events.proofs.Fronts.{fit_head, fit_at}
 use Rattle.events.proofs.Asked.{asked_number, asked_commit}
 use Rattle.verdicts.specs.Versions.{committed}
 use Rattle.verdicts.proofs.Committed.{is_committed}
+use Rattle.verdict_laws.proofs.Admissions.{commits_once}
+use Rattle.verdict_laws.proofs.Versions.{count_committed}
 use Rattle.vertices.proofs.Firsts.{any_first}
+use Rattle.vertices.proofs.Few.{few_numbers}
 
 module _ (es : List Event) (t : ℕ) where
   -- a transaction has committed exactly where it has a place among the committed
@@ -63,3 +66,23 @@ module _ (es : List Event) where
   admitted_at p h fit =
       let split : es ≡ take p es ++ get_or es p Blank ∷ drop (p + 1) es = sym (take-append-drop p es) ∙ ap (λ l. take p es ++ l) (drop_more es p Blank h) in
       fit_at [] (take p es) (get_or es p Blank) (drop (p + 1) es) (subst (λ l. unfit_at [] l ≡ 0) split fit)
+
+-- what commits after a front is a transaction's number
+numbered_left : (done es : List Event) → unfit_at done es ≡ 0 → every is_transaction (committed es) ≡ true
+numbered_left done [] h = refl
+numbered_left done (e ∷ es) h =
+    let d = fit_head done e es h in
+    let number = asked_number done e d.0 in
+    let ih = numbered_left (done ++ e ∷ []) es d.1 in
+    elim (cases_Bool (is_commit e)) [ inl k ↦ rw (k, number) ih | inr k ↦ rw k ih ]
+
+-- the committed transactions of an admitted run: none twice, each a transaction's number, and so at most 256
+module _ (es : List Event) (fit : unfit_at [] es ≡ 0) where
+  pub once_committed : (t : ℕ) → count (eqb t) (committed es) ≤ 1
+  once_committed t = omega (arith, count_committed es t, commits_once es (eq-eqb (unfit_at [] es) 0 fit) t)
+
+  pub numbered_committed : every is_transaction (committed es) ≡ true
+  numbered_committed = numbered_left [] es fit
+
+  pub few_committed : length (committed es) ≤ 256
+  few_committed = few_numbers (committed es) once_committed numbered_committed

@@ -15,7 +15,7 @@ loop-vertex-preserved c =
     let many = c.loop-vertex.invariant.0 in (
       c.push.ensures.len ∙ ap (λ n. n + 1) many,
       λ es k m.
-          let t : c.transaction.result ≡ get_or (committed es) c.loop-vertex.vertex 0 = c.transaction.ensures (committed es) m in
+          let t : c.transaction.result ≡ get_or (committed es) c.loop-vertex.vertex 0 = c.transaction.ensures ∙ ap (λ cs. get_or cs c.loop-vertex.vertex 0) m in
           subst (Spanned es) (sym c.push.ensures.items)
           (spanned_more es c.loop-vertex.spans.items c.loop-vertex.vertex _ many (c.transaction-entry.ensures.begin es k ∙ ap (begin_at es) t)
           (c.transaction-entry.ensures.commit es k ∙ ap (commit_at es) t) (c.loop-vertex.invariant.1 es k m)),
@@ -24,5 +24,5 @@ loop-vertex-preserved c =
 pub returns : goal.returns
 returns c = λ es k m.
     let many = c.loop-vertex.invariant.0 in
-    spans_all es c.loop-vertex.spans.items (omega (arith, c.count-vertex-end.ensures.all (committed es) m))
+    spans_all es c.loop-vertex.spans.items (omega (arith, c.count-vertex-end.ensures.all, ap length m))
     (omega (arith, c.count-vertex-end.ensures.few)) (c.loop-vertex.invariant.1 es k m)

@@ -2,10 +2,9 @@ use Rattle.std.proofs.Common.{◌≡◌, List, length}
 use Rattle.events.specs.declared.Event.{Event}
 use Rattle.transactions.specs.Tracks.{Tracks}
 use Rattle.verdicts.specs.Versions.{committed}
-use Rattle.vertices.specs.Numbering.{Numbers}
 use Rattle.deciding.proofs.Positions.{Spanned}
 use Rattle.deciding.proofs.spans.spans_of.Given as goal
 
 abbrev pub invariant-loop-vertex : goal.invariant-loop-vertex
 invariant-loop-vertex l =
-    (length l.spans.items ≡ l.vertex) × ((es : List Event) → Tracks l.table es → Numbers l.vertices (committed es) → Spanned es l.spans.items)
+    (length l.spans.items ≡ l.vertex) × ((es : List Event) → Tracks l.table es → l.vertices ≡ committed es → Spanned es l.spans.items)

@@ -31,8 +31,8 @@ returns g c =
     let all = all_seen g.H.History.events es c.into_iter-event-iterator.result (search rules) c.loop-event.yielded c.loop-event.event-iterator c.loop-event.yielded_by c.in-None.ensures.steps.0 in
     let later = c.loop-event.invariant.1 ∙ c.clear.ensures.later in
     record {
-      drawn = λ tracks numbers fit long.
-          let d : Drawable c.args.table.now c.args.vertices.now es bytes = record { tracks = tracks; numbers = numbers; fit = fit; enough = omega arith } in
+      drawn = λ tracks listed fit long.
+          let d : Drawable c.args.table.now c.args.vertices.now es bytes = record { tracks = tracks; listed = listed; fit = fit; enough = omega arith } in
           record { pairs = shows_kinds rank es bytes (subst (λ (done : List Event). Shows es (drawn_by rank es done) bytes) all (c.loop-event.invariant.0 es d)); later = later };
       later = later;
     }

@@ -2,7 +2,7 @@ use Rattle.std.proofs.Common.{◌≡◌, false, ◌&&◌, drop, sym, refl, ◌�
 use Rattle.std.proofs.lemmas.Bool.{and_left, and_right}
 use Rattle.graph.specs.declared.Kind.TheVariants.{Rw}
 use Rattle.events.specs.declared.Event.TheVariants.{Read}
-use Rattle.verdicts.specs.Versions.{committed, is_ordered}
+use Rattle.verdicts.specs.Versions.{is_ordered}
 use Rattle.verdicts.specs.Edges.{apart, at_pl3}
 use Rattle.versions.proofs.Least.{successor_some, successor_none}
 use Rattle.drawing.specs.EdgeSets.{edge, draws}
@@ -37,10 +37,10 @@ returns-in-Some g c =
     let u = c.in-Some.next in
     record {
       shows = λ es set d n h.
-          let next = successor_some rank es x w (u, _) (c.in-Some.ensures es d.tracks (c.args.self.now.listed (committed es) d.numbers)) in
+          let next = successor_some rank es x w (u, _) (c.in-Some.ensures es d.tracks (c.args.self.now.listed ∙ d.listed)) in
           shows_as es Rw set c.join.new.bytes (edge t u) (draws rank es Rw (Read t x (w, n)))
           (λ i j. sym (rw_one rank es t x w n (g.O.VersionOrder.lawful c.args.self.now.versions.order.now) d.fit (sym (c.at_pl3.ensures es d.tracks) ∙ c.if-not-at_pl3.false) (sym (c.is_ordered.ensures es d.tracks) ∙ c.if-not-is_ordered.false) u next i j))
-          (c.join.ensures.shows es set d.numbers d.enough h);
+          (c.join.ensures.shows es set d.listed d.fit d.enough h);
       later = c.join.ensures.later;
     }
 
@@ -52,7 +52,7 @@ returns-in_default g c =
     let w = c.args.writer in
     record {
       shows = λ es set d n.
-          let none = successor_none rank es x w (c.in_default.ensures es d.tracks (c.args.self.now.listed (committed es) d.numbers)) in
+          let none = successor_none rank es x w (c.in_default.ensures es d.tracks (c.args.self.now.listed ∙ d.listed)) in
           shows_none es Rw set c.args.bytes.now (draws rank es Rw (Read t x (w, n)))
           (λ i j. and_right (apart es i j) (draws rank es Rw (Read t x (w, n)) i j) (rw_none rank es t x w n (inr none) i j));
       later = refl {a = drop 65536 c.args.bytes.now};

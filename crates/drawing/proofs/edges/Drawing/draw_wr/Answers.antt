@@ -16,7 +16,7 @@ returns-then-above_pl1 g c =
       shows = λ es set d rank x n h.
           shows_as es Wr set c.join.new.bytes (edge w t) (draws rank es Wr (Read t x (w, n)))
           (λ i j. sym (wr_one rank es t x w n (sym (c.above_pl1.ensures es d.tracks) ∙ c.if-above_pl1.true) i j))
-          (c.join.ensures.shows es set d.numbers d.enough h);
+          (c.join.ensures.shows es set d.listed d.fit d.enough h);
       later = c.join.ensures.later;
     }
 

@@ -1,25 +1,21 @@
-use Rattle.std.proofs.Common.{◌-◌, set, Some, vec_items, ap, ◌∙◌, inl, inr, arith}
-use Rattle.vertices.proofs.Steps.{numbered_range, so_many, room, numbers_push, near_more}
+use Rattle.std.proofs.Common.{◌-◌, eqb, set, Some, vec_items, sym, ap, ◌∙◌, arith}
+use Rattle.events.specs.Lists.{first}
+use Rattle.vertices.proofs.Steps.{fresh, room, numbering_push}
 use Rattle.vertices.proofs.numbering.Vertices.add.Goals as goal
 
-pub returns-then-transaction-eq0 : goal.returns-then-transaction-eq0
-returns-then-transaction-eq0 c = λ cs k number new.
-    let few = room c.args.self.now cs k c.args.transaction number new in
-    let range = numbered_range c.args.transaction number in
-    absurd (elim c.then-transaction-eq0.either [ inl z ↦ omega arith | inr r ↦ elim r [ inl z ↦ omega arith | inr z ↦ omega (arith, few, z, c.len-vertex.ensures) ] ])
+pub push_reserved-requires : goal.push_reserved-requires
+push_reserved-requires c =
+    let v = c.self.inside in
+    let t = c.args.transaction in
+    let at = c.vertex.ensures.place ∙ sym (ap (first (eqb t)) c.self.view_is) in
+    let new = fresh (vec_items v.transactions) t c.vertex.result c.if-transaction-eq0.false c.if-transaction-gt256.false at (sym c.is_some.ensures ∙ c.if-is_some.false) in
+    omega (arith, room v c.self.invariant t new.0 new.1, c.self.invariant.reserved)
 
 pub invariant_of-self : goal.invariant_of-self
 invariant_of-self c =
-    let s = c.args.self.now in
-    record {
-      few = omega (arith, c.push_reserved.ensures.len, c.if-vertex-ge256.false);
-      reserved = omega (arith, c.push_reserved.ensures.capacity, s.reserved);
-      wide = s.wide;
-      near = near_more s.vertices.items (c.args.transaction - 1) c.len-vertex.result c.if-vertex-ge256.false s.near;
-    }
-
-pub returns : goal.returns
-returns c = λ cs k number new.
-    let s = c.args.self.now in
-    numbers_push s cs k c.args.transaction number new _ c.push_reserved.ensures.items
-    (ap (λ n. set (vec_items s.vertices) (c.args.transaction - 1) (Some n)) (c.len-vertex.ensures ∙ so_many s cs k c.args.transaction number new))
+    let v = c.self.inside in
+    let t = c.args.transaction in
+    let at = c.vertex.ensures.place ∙ sym (ap (first (eqb t)) c.self.view_is) in
+    let new = fresh (vec_items v.transactions) t c.vertex.result c.if-transaction-eq0.false c.if-transaction-gt256.false at (sym c.is_some.ensures ∙ c.if-is_some.false) in
+    numbering_push v c.self.invariant t new.0 new.1 _ c.push_reserved.ensures.items c.push_reserved.ensures.capacity
+    (ap (λ n. set (vec_items v.vertices) (t - 1) (Some n)) c.len-vertex.ensures)
