@@ -1,7 +1,8 @@
 -- A table of bytes over a list in which no number stands twice, with one bit more at one pair.
-use Rattle.std.proofs.Common.{◌≡◌, ℕ, ◌+◌, ◌<◌, Bool, true, false, cond, ◌&&◌, eqb, ltb, List, length, get_or, refl, ap, ◌∙◌, inl, inr, arith}
+use Rattle.std.proofs.Common.{◌≡◌, ℕ, ◌+◌, ◌*◌, ◌<◌, min, Bool, true, false, cond, ◌&&◌, eqb, ltb, List, ◌++◌, length, get_or, drop, sym, refl, ap, ◌∙◌, inl, inr, arith}
+use Rattle.std.proofs.lemmas.List.{get_or_append_left, length-append, length-drop, drop_all, drop_at}
 use lib.Bits.{bit_or}
-use Rattle.std.proofs.lemmas.Bool.{cases_Bool, and_parts, and_from, eqb-true, eq-eqb, ltb-true, lt-ltb, both_ways}
+use Rattle.std.proofs.lemmas.Bool.{cases_Bool, cases_lt, and_parts, and_from, eqb-true, eq-eqb, ltb-true, lt-ltb, both_ways}
 use Rattle.events.specs.Lists.{first}
 use Rattle.verdicts.specs.Tables.{byte, Grid}
 use Rattle.vertices.proofs.Members.{member_at}
@@ -53,3 +54,15 @@ module _ (cs : List ℕ) (back : (a : ℕ) → a < length cs → first (eqb (get
               let y = place_of b q u (ltb-true b (length cs) d.1) (eqb-true (get_or cs b 0) u e.1) at_q in
               absurd (both_ways (eqb a p && eqb b q) off (and_from (eqb a p) (eqb b q) (eq-eqb a p x) (eq-eqb b q y)))
         ]
+
+-- bytes after the 65,536 show nothing
+pub grid_front : (cs : List ℕ) (f : ℕ → ℕ → ℕ) (pairs rest : List ℕ) → length pairs ≡ 65536 → Grid cs f pairs → Grid cs f (pairs ++ rest)
+unfolding Grid
+grid_front cs f pairs rest long h a b la lb = get_or_append_left pairs rest 0 (256 * a + b) (omega arith) ∙ h a b la lb
+
+-- and stay as they were
+pub later_stays : (old pairs rest : List ℕ) (end : ℕ) → end ≡ min (length old) 65536 → length pairs ≡ end → rest ≡ drop end old → drop 65536 (pairs ++ rest) ≡ drop 65536 old
+later_stays old pairs rest end e p r = elim (cases_lt (length old) 65536) [
+  | inl l ↦ drop_all 65536 (pairs ++ rest) (omega (arith, length-append pairs rest, ap length r, length-drop end old)) ∙ sym (drop_all 65536 old (omega arith))
+  | inr l ↦ let n : end ≡ 65536 = omega arith in drop_at pairs rest 65536 (p ∙ n) ∙ r ∙ ap (λ k. drop k old) n
+]

@@ -39,8 +39,7 @@ impl<'a, O: VersionOrder> Drawing<'a, O> {
 
     // Draws an edge; none where its ends are one transaction, or one of them has not committed.
     fn join(&self, tail: u16, head: u16, kind: Kind, bytes: &mut [u8])
-        ensures shows { (es : List AnEvent) (set : EdgeSet) → self.now.vertices.now ≡ committed es → unfit_at [] es ≡ 0 → 65536 ≤ length bytes.old → Shows es set bytes.old → Shows es (adding kind (edge tail head) set) bytes.new }
-        ensures later { drop 65536 bytes.new ≡ drop 65536 bytes.old }
+        ensures { (es : List AnEvent) (set : EdgeSet) → self.now.vertices.now ≡ committed es → unfit_at [] es ≡ 0 → 65536 ≤ length bytes.old → Shows es set bytes.old → Shows es (adding kind (edge tail head) set) bytes.new }
     {
         if tail == head {
             return;
@@ -56,8 +55,7 @@ impl<'a, O: VersionOrder> Drawing<'a, O> {
 
     // Draws the ww edge of a write: to the writer of the next version.
     fn draw_ww(&self, transaction: u16, item: u16, bytes: &mut [u8])
-        ensures shows { (es : List AnEvent) (set : EdgeSet) → Drawable self.now.versions.table.now self.now.vertices.now es bytes.old → Shows es set bytes.old → Shows es (adding Ww (draws (O.ranks self.now.versions.order.now) es Ww (Write transaction item)) set) bytes.new }
-        ensures later { drop 65536 bytes.new ≡ drop 65536 bytes.old }
+        ensures { (es : List AnEvent) (set : EdgeSet) → Drawable self.now.versions.table.now self.now.vertices.now es bytes.old → Shows es set bytes.old → Shows es (adding Ww (draws (O.ranks self.now.versions.order.now) es Ww (Write transaction item)) set) bytes.new }
     {
         if let Some((next, _)) = self.versions.next(item, transaction) {
             self.join(transaction, next, Kind::Ww, bytes);
@@ -66,8 +64,7 @@ impl<'a, O: VersionOrder> Drawing<'a, O> {
 
     // Draws the wr edge of a read: from the writer of the version, where the reader is above PL-1.
     fn draw_wr(&self, reader: u16, writer: u16, bytes: &mut [u8])
-        ensures shows { (es : List AnEvent) (set : EdgeSet) → Drawable self.now.versions.table.now self.now.vertices.now es bytes.old → (rank : ℕ → ℕ → ℕ) (x n : ℕ) → Shows es set bytes.old → Shows es (adding Wr (draws rank es Wr (Read reader x (writer, n))) set) bytes.new }
-        ensures later { drop 65536 bytes.new ≡ drop 65536 bytes.old }
+        ensures { (es : List AnEvent) (set : EdgeSet) → Drawable self.now.versions.table.now self.now.vertices.now es bytes.old → (rank : ℕ → ℕ → ℕ) (x n : ℕ) → Shows es set bytes.old → Shows es (adding Wr (draws rank es Wr (Read reader x (writer, n))) set) bytes.new }
     {
         if above_pl1(self.versions.table, reader) {
             self.join(writer, reader, Kind::Wr, bytes);
@@ -76,8 +73,7 @@ impl<'a, O: VersionOrder> Drawing<'a, O> {
 
     // Draws the rw edge of a read: to the writer of the next version, where the reader is at PL-3.
     fn draw_rw(&self, reader: u16, item: u16, writer: u16, bytes: &mut [u8])
-        ensures shows { (es : List AnEvent) (set : EdgeSet) → Drawable self.now.versions.table.now self.now.vertices.now es bytes.old → (n : ℕ) → Shows es set bytes.old → Shows es (adding Rw (draws (O.ranks self.now.versions.order.now) es Rw (Read reader item (writer, n))) set) bytes.new }
-        ensures later { drop 65536 bytes.new ≡ drop 65536 bytes.old }
+        ensures { (es : List AnEvent) (set : EdgeSet) → Drawable self.now.versions.table.now self.now.vertices.now es bytes.old → (n : ℕ) → Shows es set bytes.old → Shows es (adding Rw (draws (O.ranks self.now.versions.order.now) es Rw (Read reader item (writer, n))) set) bytes.new }
     {
         if !at_pl3(self.versions.table, reader) || !self.versions.is_ordered(writer) {
             return;
@@ -89,8 +85,7 @@ impl<'a, O: VersionOrder> Drawing<'a, O> {
 
     // Draws the edges in force of an event; none where its transaction has not committed.
     pub fn draw_event(&self, event: Event, bytes: &mut [u8])
-        ensures shows { (es : List AnEvent) (set : EdgeSet) → Drawable self.now.versions.table.now self.now.vertices.now es bytes.old → Shows es set bytes.old → Shows es (drawing (O.ranks self.now.versions.order.now) es event set) bytes.new }
-        ensures later { drop 65536 bytes.new ≡ drop 65536 bytes.old }
+        ensures { (es : List AnEvent) (set : EdgeSet) → Drawable self.now.versions.table.now self.now.vertices.now es bytes.old → Shows es set bytes.old → Shows es (drawing (O.ranks self.now.versions.order.now) es event set) bytes.new }
     {
         if !self
             .versions

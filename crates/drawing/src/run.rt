@@ -29,8 +29,10 @@ pub fn draw<H: History, O: VersionOrder>(
     ensures later { drop 65536 bytes.new ≡ drop 65536 bytes.old }
 {
     let drawing = Drawing::of(table, vertices, order);
-    clear(bytes);
+    let end = bytes.len().min(65536);
+    let (pairs, _) = bytes.split_at_mut(end);
+    clear(pairs);
     for event in history.iter() {
-        drawing.draw_event(event, bytes);
+        drawing.draw_event(event, pairs);
     }
 }
