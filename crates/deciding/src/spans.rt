@@ -16,8 +16,8 @@ pub(crate) fn spans_of(table: &TransactionTable, vertices: &Vertices) -> ArrayVe
     ensures { (es : List AnEvent) → Tracks table.now es → vertices.now ≡ committed es → Spans es (begins_of result.items) (ends_of result.items) }
 {
     let mut spans = ArrayVec::new();
-    for vertex in 0..vertices.count() {
-        let entry = table.transaction(vertices.transaction(vertex));
+    for transaction in vertices.transactions() {
+        let entry = table.transaction(*transaction);
         spans.push(Span {
             begin: entry.begin,
             end: entry.commit,

@@ -26,7 +26,8 @@ impl Vertices {
 
     // The transactions, in the order of their vertices.
     pub fn transactions(&self) -> &[u16]
-        ensures { result.now ≡ self.now }
+        ensures all { result.now ≡ self.now }
+        ensures few { length result.now ≤ 256 }
     {
         &self.transactions
     }
