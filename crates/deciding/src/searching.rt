@@ -28,7 +28,7 @@ pub(crate) struct Edges<'a> {
     pub(crate) bytes: &'a [u8],
 }
 
-// Searches any graph; an array of 256 has room for every vertex.
+// Searches any graph. A search fills the front of a lent report; an array of 256 has room for every vertex.
 fn search_in<G: Graph>(graph: &G, found: &mut [u16; 256]) -> Found
     ensures { Filled (G.Graph.vertices graph.now) (joined (G.Graph.edges graph.now)) found.old found.new result }
 {

@@ -14,7 +14,8 @@ impl Vertices {
         self.transactions.len() as u16
     }
 
-    // The transaction that is this vertex; 0 where there is no such vertex.
+    // The transaction that is this vertex; 0, which no transaction has, where there is no such vertex. Who asks has a vertex, and
+    // would take an `Option` apart in vain.
     pub fn transaction(&self, vertex: u16) -> u16
         ensures { result ≡ slice_index self.now vertex }
     {
