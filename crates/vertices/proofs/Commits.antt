@@ -1,17 +1,16 @@
 -- The committed transactions of a run: who is among them, and what one more event adds.
-use Rattle.std.proofs.Common.{◌≡◌, ℕ, ◌+◌, ◌<◌, ◌≤◌, Bool, true, false, cond, not, ◌||◌, eqb, ltb, List, [], ◌∷◌, ◌++◌, map, length, get_or, take, drop, filter, sym, refl, ap, ◌∙◌, subst, inl, inr, append-nil, arith}
+use Rattle.std.proofs.Common.{◌≡◌, ℕ, ◌<◌, ◌≤◌, Bool, true, false, cond, not, ◌||◌, eqb, ltb, List, [], ◌∷◌, ◌++◌, map, length, filter, sym, refl, ap, ◌∙◌, inl, inr, arith}
 use mathlib.Core.List.{map-append}
 use Rattle.std.proofs.lemmas.List.Elements.{filter-append}
-use Rattle.std.proofs.lemmas.List.{drop_more, take-append-drop}
 use Rattle.std.proofs.lemmas.Bool.{and_parts, or_parts, not-true, ltb-true, lt-ltb, eq-eqb, cases_Bool}
 use Rattle.events.specs.declared.Event.{Event}
-use Rattle.events.specs.declared.Event.TheVariants.{Blank, Begin, Read, Write, Commit, Abort}
+use Rattle.events.specs.declared.Event.TheVariants.{Commit}
 use Rattle.events.specs.Lists.{count, every, first}
 use Rattle.events.specs.Fields.{transaction_of, is_commit}
 use Rattle.events.specs.Runs.{begun, has_committed, has_aborted}
 use Rattle.events.specs.Questions.{is_transaction, question, unfit_at}
 use Rattle.events.proofs.Pushes.{first_none}
-use Rattle.events.proofs.Fronts.{fit_head, fit_at}
+use Rattle.events.proofs.Fronts.{fit_head}
 use Rattle.events.proofs.Asked.{asked_number, asked_commit}
 use Rattle.verdicts.specs.Versions.{committed}
 use Rattle.verdicts.proofs.Committed.{is_committed}
@@ -48,24 +47,6 @@ module _ (es : List Event) where
 
   pub committed_more : (t : ℕ) → committed (es ++ Commit t ∷ []) ≡ committed es ++ t ∷ []
   committed_more t = committed_push (Commit t)
-
-  -- an event that is no commit adds none
-  pub committed_other : (e : Event) → ((t : ℕ) → e ≡ Commit t → ⊥) → committed (es ++ e ∷ []) ≡ committed es
-  committed_other e h = committed_push e ∙ ap (λ b. committed es ++ map transaction_of (cond b (e ∷ []) [])) (no_commit e h) ∙ append-nil (committed es)
-    where
-      no_commit : (e : Event) → ((t : ℕ) → e ≡ Commit t → ⊥) → is_commit e ≡ false
-      no_commit Blank h = refl
-      no_commit (Begin t l) h = refl
-      no_commit (Read t x v) h = refl
-      no_commit (Write t x) h = refl
-      no_commit (Commit t) h = absurd (h t refl)
-      no_commit (Abort t) h = refl
-
-  -- an event of an admitted run is admitted after those before it
-  pub admitted_at : (p : ℕ) → p < length es → unfit_at [] es ≡ 0 → question (take p es) (get_or es p Blank) ≡ 0
-  admitted_at p h fit =
-      let split : es ≡ take p es ++ get_or es p Blank ∷ drop (p + 1) es = sym (take-append-drop p es) ∙ ap (λ l. take p es ++ l) (drop_more es p Blank h) in
-      fit_at [] (take p es) (get_or es p Blank) (drop (p + 1) es) (subst (λ l. unfit_at [] l ≡ 0) split fit)
 
 -- what commits after a front is a transaction's number
 numbered_left : (done es : List Event) → unfit_at done es ≡ 0 → every is_transaction (committed es) ≡ true
