@@ -77,7 +77,7 @@ impl<'a> Edges<'a> {
 }
 
 // Writes to the front of a report which transactions the first so many vertices of a list are. By place: of what is written
-// through an adapter of iter_mut, a proof knows nothing.
+// through a zip of iter_mut, a proof knows nothing.
 pub(crate) fn write_names(vertices: &Vertices, found: &[u16; 256], count: usize, report: &mut [u16])
     requires { (count ≤ 256) × (256 ≤ length report.old) }
     ensures names { take count report.new ≡ named vertices.now (take count found.now) }

@@ -30,7 +30,7 @@ mod tests {
         }
     }
 
-    // Each image has the text beside it: the same walk through a table as for listings, but of five lines, and in another crate.
+    // Each image has the text beside it.
     fn all_match(rt: &impl Abort, heap: Global, table: &[(&[[u16; 8]], &str)]) -> Result<(), Fail> {
         for (slots, expected) in table {
             let text = unpacked(heap, bytes_of(heap, slots)?)?;

@@ -59,7 +59,7 @@ impl Line {
     }
 }
 
-// The word of the level with this code; nothing where no level has it.
+// The word of the level with this code, a literal as in the format; nothing where no level has it.
 fn level_word(code: u16) -> &'static str
     ensures { (result.now ≡ code_word code) × (length result.now ≤ 4) }
 {

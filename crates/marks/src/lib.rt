@@ -19,7 +19,7 @@ impl Marks {
         Marks::default()
     }
 
-    // The marks below a number are set, and all 256 where it is larger. The loop goes over marks, which are numbers.
+    // The marks below a number are set, and all 256 where it is larger.
     pub fn first(count: usize) -> Marks
         ensures { (k : ℕ) → marked result k ≡ (nat_lt k count && nat_lt k 256) }
     {

@@ -14,7 +14,7 @@ use transactions::TransactionTable;
 const CAPACITY: u16 = 4095;
 
 // Why a listing is not packed: its first fault, or there is no memory.
-#[derive(Clone, Copy)]
+#[derive(Clone, Copy, PartialEq, Eq, Debug)]
 pub enum PackFault {
     Listing(Fault),
     NoMemory,

@@ -14,7 +14,7 @@ use transactions::{TransactionTable, Unfit};
 const LONGEST: usize = 106470;
 
 // Why an image is not unpacked: the bytes are none, its events do not fit, or there is no memory.
-#[derive(Clone, Copy)]
+#[derive(Clone, Copy, PartialEq, Eq, Debug)]
 pub enum UnpackFault {
     NoImage(ImageRefusal),
     NotFit(Unfit),

@@ -29,7 +29,7 @@ pub enum Found {
 #[derive(Clone, Copy, PartialEq, Eq, Debug)]
 pub struct Short;
 
-// The tails of a head. Loops like this one go over vertices, which are numbers and stand in no list.
+// The tails of a head, by a look at each vertex.
 fn tails_at<G: Graph>(graph: &G, head: usize) -> Marks
     ensures { (t : ℕ) → marked result t ≡ joined (G.Graph.edges graph.now) t head }
 {

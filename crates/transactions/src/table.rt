@@ -15,7 +15,7 @@ pub enum Stage {
     Aborted,
 }
 
-// What is known of a transaction. A position is 0 where there is no such event, as in the rules, which compare positions
+// What is known of a transaction; what a stage has not come to is none or 0. A position is 0 where there is no such event, as in the rules, which compare positions
 // as numbers: an `Option` would be taken apart wherever one is read.
 #[derive(Clone, Copy, PartialEq, Eq, Debug)]
 pub struct Entry {
@@ -33,7 +33,8 @@ pub struct Modifications {
 }
 
 // An entry for each of 256 transactions, the modifications for each of them and each of 1,024 items, and how many events
-// have entered. Which list of events it tracks is a premise of its promises, and no ghost field: those hold facts and no lists.
+// have entered. Which list of events it tracks is a premise of its promises: only a struct whose memory is proved by hand may hold a list
+// in a ghost field.
 #[derive(Drop)]
 pub struct TransactionTable {
     entries: Vec<Entry>,

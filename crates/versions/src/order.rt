@@ -16,7 +16,7 @@ pub trait VersionOrder {
 }
 
 // The two rules: by the last write of the item, or by the commit.
-#[derive(Clone, Copy, PartialEq, Debug)]
+#[derive(Clone, Copy, PartialEq, Eq, Debug)]
 pub enum Rule {
     ByWrite,
     ByCommit,

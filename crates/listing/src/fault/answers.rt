@@ -31,7 +31,7 @@ impl fmt::Display for Layer {
 }
 
 impl Fault {
-    // The number of the question that answers no.
+    // The number of the question that answers no. By a match, as that of a refusal.
     pub fn number(self) -> u16
         ensures { result ≡ fault_number self.why }
     {

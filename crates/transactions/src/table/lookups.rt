@@ -13,10 +13,7 @@ impl Entry {
     pub fn has_committed(self) -> bool
         ensures { result ≡ committed_in self.stage }
     {
-        match self.stage {
-            Stage::Committed => true,
-            Stage::NotBegun | Stage::Running | Stage::Aborted => false,
-        }
+        self.stage == Stage::Committed
     }
 }
 

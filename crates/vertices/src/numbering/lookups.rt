@@ -14,8 +14,7 @@ impl Vertices {
         self.transactions.len() as u16
     }
 
-    // The transaction that is this vertex; 0, which no transaction has, where there is no such vertex. Who asks has a vertex, and
-    // would take an `Option` apart in vain.
+    // The transaction that is this vertex; 0, which no transaction has, where there is no such vertex.
     pub fn transaction(&self, vertex: u16) -> u16
         ensures { result ≡ slice_index self.now vertex }
     {
