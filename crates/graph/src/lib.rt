@@ -1,4 +1,4 @@
-// Graphs of at most 256 vertices, whose edges have kinds: a table of bytes, one worked out from where vertices begin and end, and layers over any graphs. A vertex is a number, from 0 on.
+// Graphs of at most 256 vertices, whose edges have kinds: a table of bytes, two worked out from where vertices begin and end, and layers over any graphs. A vertex is a number, from 0 on.
 #![tactic(auto)]
 
 ghost use Rattle.std.specs.Prelude.{◌≡◌, ℕ, min, max, not, ◌&&◌, ◌==◌, nat_lt};
@@ -8,7 +8,7 @@ ghost use Rattle.graph.specs.Kinds.{bit_of};
 
 mod starts;
 
-pub use starts::{Span, Starts};
+pub use starts::{ListedStarts, Span, Starts};
 
 // What an edge stands for. A set of kinds is the sum of their bits, in one byte, since a table holds it so.
 #[derive(Clone, Copy, PartialEq, Eq, Debug)]
