@@ -1,6 +1,6 @@
-// Small graphs in a table, each with what the search must find, graphs of all 256 vertices, a union, and a short report.
+// Small graphs in a table, each with what the search must find, graphs of all 256 vertices, a union, lists of unequal lengths, and a short report.
 use super::*;
-use graph::{Kind, Span, Starts, Table};
+use graph::{ListedStarts, Span, Table};
 use std::alloc::{AllocError, Global};
 use std::array;
 use std::process::Abort;
@@ -136,7 +136,7 @@ fn union_closes_a_cycle(rt: HostRuntime) -> Result<(), Fail> {
         bytes: &bytes,
         size: 2,
     };
-    let second = Starts {
+    let second = graph::Starts {
         spans: &[
             Span { begin: 5, end: 10 },
             Span { begin: 20, end: 30 },
@@ -153,10 +153,21 @@ fn union_closes_a_cycle(rt: HostRuntime) -> Result<(), Fail> {
     Ok(())
 }
 
+// Of two lists of unequal lengths the rest of the longer one counts for nothing.
+#[test]
+fn unequal_lists(rt: HostRuntime) {
+    let begins: &[u16] = &[5, 20, 1];
+    let ends: &[u16] = &[10, 30, 40, 7];
+    let listed = ListedStarts { begins, ends };
+    let own = Starts { begins, ends };
+    finds(&rt, &listed, Found::Order(3), &[0, 1, 2]);
+    finds(&rt, &own, Found::Order(3), &[0, 1, 2]);
+}
+
 #[test]
 fn short_report(rt: HostRuntime) {
     let mut report = [BEFORE; 255];
-    let graph = Starts { spans: &[] };
+    let graph = graph::Starts { spans: &[] };
     assert_eq!(rt; search::find(&graph, &mut report), Err(Short));
     begins(&rt, &report, &[]);
 }
