@@ -5,4 +5,4 @@ mod order;
 mod successor;
 
 pub use order::{Rule, VersionOrder};
-pub use successor::Versions;
+pub use successor::{Versions, comes_after, is_ordered};

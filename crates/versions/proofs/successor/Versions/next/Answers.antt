@@ -26,7 +26,7 @@ loop-transaction-preserved g c = λ es k.
     (elim c.if-comes_after.branch [
       | then-comes_after w ↦
           subst (λ (o : Option (ℕ × ℕ)). Least P R (take i cs ++ t ∷ []) o) (sym (w.least-is ∙ w.lesser_of-least.ensures))
-          (least_more P R (take i cs) c.loop-transaction.least t w.rank.result (sym (c.comes_after.ensures es k) ∙ w.if-comes_after.true) (w.rank.ensures es k) inv)
+          (least_more P R (take i cs) c.loop-transaction.least t w.rank_of-rank.result (sym (c.comes_after.ensures es k) ∙ w.if-comes_after.true) (w.rank_of-rank.ensures es k) inv)
       | else-comes_after w ↦
           subst (λ (o : Option (ℕ × ℕ)). Least P R (take i cs ++ t ∷ []) o) (sym w.least-is)
           (least_skip P R (take i cs) c.loop-transaction.least t (sym (c.comes_after.ensures es k) ∙ w.if-comes_after.false) inv)
