@@ -1,7 +1,7 @@
 // unpack: reads an image from standard input and writes its listing; where it is refused, only the line that says so.
 #![tactic(auto)]
 
-use packing::{UnpackFault, unpack};
+use packing::{UnpackFault, refusal_line, unpack};
 use std::alloc::AllocError;
 use std::io::{Read, Write};
 
@@ -11,7 +11,10 @@ fn run(rt: &HostRuntime) -> anyhow::Result<()> {
     match unpack(rt.alloc(), bytes) {
         Ok(text) => rt.stdout().write_all(&text)?,
         Err(UnpackFault::NoMemory) => return Err(AllocError.into()),
-        Err(fault) => println!(rt; "{fault}")?,
+        Err(fault) => {
+            let line = refusal_line(rt.alloc(), fault)?;
+            print!(rt; "{line}")?;
+        }
     }
     Ok(())
 }
