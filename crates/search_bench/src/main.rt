@@ -74,11 +74,18 @@ fn tell(rt: &HostRuntime, name: &str, bytes: &[u8]) -> io::Result<()> {
     println!(rt; "{name}: {orders} orders, {walks} walks, {looks} looks a search")
 }
 
+// One table at a time: each goes at the end of its statement.
 fn main(rt: HostRuntime) -> io::Result<()> {
     // Every vertex joined to every later one.
-    let dense = joined_where(rt.alloc(), |tail, head| tail < head)?;
-    tell(&rt, "dense", &dense)?;
+    tell(
+        &rt,
+        "dense",
+        &joined_where(rt.alloc(), |tail, head| tail < head)?,
+    )?;
     // Every vertex joined to the next, and the last to the first.
-    let ring = joined_where(rt.alloc(), |tail, head| tail.wrapping_add(1) == head)?;
-    tell(&rt, "ring", &ring)
+    tell(
+        &rt,
+        "ring",
+        &joined_where(rt.alloc(), |tail, head| tail.wrapping_add(1) == head)?,
+    )
 }
