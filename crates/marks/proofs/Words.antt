@@ -1,5 +1,5 @@
 -- The marks in four words: where they end, after a change of one word, in two lists at once, and the least of them.
-use Rattle.std.proofs.Common.{◌≡◌, ◌≢◌, ℕ, ◌+◌, ◌-◌, ◌*◌, ◌/◌, ◌%◌, ◌^◌, ◌<◌, ◌≤◌, Bool, true, false, not, ◌&&◌, ◌||◌, ltb, eqb, List, [], length, set, get_or, sym, ap, ◌∙◌, inl, inr, arith}
+use Rattle.std.proofs.Common.{◌≡◌, ◌≢◌, ℕ, zero, suc, ◌+◌, ◌-◌, ◌*◌, ◌/◌, ◌%◌, ◌^◌, ◌<◌, ◌≤◌, Bool, true, false, not, ◌&&◌, ◌||◌, ltb, eqb, List, [], length, set, get_or, sym, ap, ◌∙◌, inl, inr, arith}
 use lib.Bits.{bit_and, bit_or}
 use Rattle.std.specs.Int.{bit_at, trailing_zeros}
 use mir.Syntax.{w64}
@@ -28,11 +28,23 @@ unfolding marked
 unmarked_at m k z = and_right (ltb k 256) _ (ap (λ (x : ℕ). eqb (bit_at x (k % 64)) 1) z ∙ ap (λ (x : ℕ). eqb x 1) (bit_at-zero (k % 64)))
 
 pub none_in_zero : (m : Marks) (k : ℕ) → (k < 256 → get_or m.words (k / 64) 0 ≡ 0) → marked m k ≡ false
-none_in_zero m k zero =
+none_in_zero m k none =
     elim (cases_lt k 256) [
-      | inl l ↦ unmarked_at m k (zero l)
+      | inl l ↦ unmarked_at m k (none l)
       | inr l ↦ marked_past m k l
     ]
+
+-- what is 0 at each place from 0 to 3
+each_of_four : (f : ℕ → ℕ) → f 0 ≡ 0 → f 1 ≡ 0 → f 2 ≡ 0 → f 3 ≡ 0 → (q : ℕ) → q < 4 → f q ≡ 0
+each_of_four f a b c d zero h = a
+each_of_four f a b c d (suc zero) h = b
+each_of_four f a b c d (suc (suc zero)) h = c
+each_of_four f a b c d (suc (suc (suc zero))) h = d
+each_of_four f a b c d (suc (suc (suc (suc q)))) h = absurd (omega arith)
+
+-- four words that are 0
+pub none_in_four : (m : Marks) (k : ℕ) → get_or m.words 0 0 ≡ 0 → get_or m.words 1 0 ≡ 0 → get_or m.words 2 0 ≡ 0 → get_or m.words 3 0 ≡ 0 → marked m k ≡ false
+none_in_four m k a b c d = none_in_zero m k (λ l. each_of_four (λ q. get_or m.words q 0) a b c d (k / 64) (omega arith))
 
 pub unmarked_none : (k : ℕ) → marked unmarked k ≡ false
 unmarked_none k = none_in_zero unmarked k (λ l. get_or_past [] (k / 64) 0 (omega arith))

@@ -13,6 +13,7 @@ pub struct Marks {
 
 impl Marks {
     // No mark is set.
+    #[tactic(auto, using(crate::proofs::Words::none_in_four))]
     pub fn new() -> Marks
         ensures { (k : ℕ) → marked result k ≡ false }
     {

@@ -4,9 +4,10 @@ use Rattle.marks.proofs.Words.{removed, marked_past}
 use Rattle.marks.proofs.Marks.remove.Goals as goal
 
 pub returns-then-mark-lt256 : goal.returns-then-mark-lt256
-returns-then-mark-lt256 c =
+returns-then-mark-lt256 c k =
     let long : length c.args.self.now.words ≡ 4 = search rules in
-    removed c.args.self.now c.args.mark (omega arith) (omega arith)
+    let less = removed c.args.self.now c.args.mark (omega arith) (omega arith) k in
+    grind (arith, nat_tests)
 
 pub returns-else-mark-lt256 : goal.returns-else-mark-lt256
 returns-else-mark-lt256 c k = let past = marked_past c.args.self.now k in grind (arith, nat_tests)
