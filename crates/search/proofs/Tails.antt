@@ -1,5 +1,5 @@
 -- The sets of tails, one changed at a time, and the tails that a graph has.
-use Rattle.std.proofs.Common.{◌≡◌, ℕ, ◌+◌, ◌<◌, ◌≤◌, Bool, true, false, cond, not, ◌&&◌, ◌||◌, eqb, ltb, List, length, set, is_some, Some, None, Option, sym, ap, ◌∙◌, inl, inr, arith, MatchOption}
+use Rattle.std.proofs.Common.{◌≡◌, ℕ, ◌+◌, ◌<◌, ◌≤◌, Bool, true, false, cond, not, ◌&&◌, ◌||◌, eqb, ltb, List, length, set, is_some, Some, None, Option, sym, ap, ◌∙◌, inl, inr, arith, MatchOption, zero, suc, [], ◌∷◌, ◌++◌}
 use Rattle.std.proofs.lemmas.List.{get_or-set_same, get_or-set_other, get_or_past}
 use Rattle.std.proofs.lemmas.Bool.{cases_eq, cases_lt, cases_Bool, both_ways}
 use Rattle.std.proofs.lemmas.Bool.Decides.{nat_tests}
@@ -37,6 +37,13 @@ head_within tails h some = elim (cases_lt h (length tails)) [
   | inr l ↦ absurd (both_ways (tailless tails h) some (none_from 256 (λ t. tail tails t h) (λ t b. tail_past tails t h l)))
 ]
 
+-- one empty set more
+pub none_push : (tails : List Marks) (m : Marks) → ((t h : ℕ) → tail tails t h ≡ false) → ((k : ℕ) → marked m k ≡ false) → (t h : ℕ) → tail (tails ++ m ∷ []) t h ≡ false
+none_push [] m none out t zero = out t
+none_push [] m none out t (suc h) = unmarked_none t
+none_push (x ∷ tails) m none out t zero = none t zero
+none_push (x ∷ tails) m none out t (suc h) = none_push tails m (λ u k. none u (suc k)) out t h
+
 -- ---- one set changed
 
 pub tail_set : (tails : List Marks) (i : ℕ) (m : Marks) → i < length tails → (t h : ℕ) → tail (set tails i m) t h ≡ cond (eqb h i) (marked m t) (tail tails t h)
@@ -67,6 +74,51 @@ module _ {n : ℕ} {edges : ℕ → ℕ → ℕ} (well : WellFormed n edges) whe
   pub joined_head : (t h : ℕ) → joined edges t h ≡ true → h < n
   joined_head t h j =
       elim (cases_lt h n) [ inl l ↦ l | inr l ↦ absurd (both_ways (joined edges t h) (ap (λ (x : ℕ). ltb 0 x) (well.heads t h l)) j) ]
+
+  -- all heads
+  pub heads_all : (start tails : List Marks) (i v : ℕ) → n ≤ i
+      → ((t h : ℕ) → tail tails t h ≡ (tail start t h || (ltb h i && (eqb t v && joined edges t h))))
+      → (t h : ℕ) → tail tails t h ≡ (tail start t h || (eqb t v && joined edges t h))
+  heads_all start tails i v l inv t h =
+      let a = inv t h in
+      elim (cases_Bool (joined edges t h)) [
+        | inl j ↦ let k = joined_head t h j in grind (arith, nat_tests)
+        | inr j ↦ grind (arith, nat_tests)
+      ]
+
+  -- one tail more, for all heads
+  pub tails_more : (tails tails' : List Marks) (v : ℕ) → ((t h : ℕ) → tail tails t h ≡ (ltb t v && joined edges t h))
+      → ((t h : ℕ) → tail tails' t h ≡ (tail tails t h || (eqb t v && joined edges t h)))
+      → (t h : ℕ) → tail tails' t h ≡ (ltb t (v + 1) && joined edges t h)
+  tails_more tails tails' v inv more t h = let a = inv t h in let b = more t h in grind (arith, nat_tests)
+
+  -- all tails
+  pub tails_all : (tails : List Marks) (v : ℕ) → n ≤ v → ((t h : ℕ) → tail tails t h ≡ (ltb t v && joined edges t h))
+      → (t h : ℕ) → tail tails t h ≡ joined edges t h
+  tails_all tails v l inv t h =
+      let a = inv t h in
+      elim (cases_Bool (joined edges t h)) [
+        | inl j ↦ let k = joined_tail t h j in grind (arith, nat_tests)
+        | inr j ↦ grind (arith, nat_tests)
+      ]
+
+-- ---- a vertex added to the sets, head by head
+
+module _ (edges : ℕ → ℕ → ℕ) (start tails : List Marks) (m : Marks) (i v : ℕ) (here : i < length tails)
+    (inv : (t h : ℕ) → tail tails t h ≡ (tail start t h || (ltb h i && (eqb t v && joined edges t h))))
+    (added : (t : ℕ) → marked m t ≡ (tail tails t i || (eqb t v && joined edges t i))) where
+  pub heads_more : (t h : ℕ) → tail (set tails i m) t h ≡ (tail start t h || (ltb h (i + 1) && (eqb t v && joined edges t h)))
+  heads_more t h =
+      let rows = tail_set tails i m here t h in
+      let was = inv t h in
+      elim (cases_eq h i) [
+        | inl e ↦
+            let same : tail tails t h ≡ tail tails t i = ap (tail tails t) e in
+            let edge : joined edges t h ≡ joined edges t i = ap (joined edges t) e in
+            let now = added t in
+            grind (arith, nat_tests)
+        | inr e ↦ grind (arith, nat_tests)
+      ]
 
 -- ---- a placed vertex taken out of the sets, head by head
 

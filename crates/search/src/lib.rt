@@ -29,27 +29,47 @@ pub enum Found {
 #[derive(Clone, Copy, PartialEq, Eq, Debug)]
 pub struct Short;
 
-// The tails of a head, by a look at each vertex.
-fn tails_at<G: Graph>(graph: &G, head: usize) -> Marks
-    ensures { (t : ℕ) → marked result t ≡ joined (G.Graph.edges graph.now) t head }
+// So many sets without a tail.
+fn no_tails(size: usize) -> ArrayVec<Marks, 256>
+    requires { size ≤ 256 }
+    ensures each { length result.items ≡ size }
+    ensures none { (t h : ℕ) → tail result.items t h ≡ false }
 {
-    let mut tails = Marks::new();
-    for vertex in 0..graph.size() {
-        if graph.kinds(vertex, head) != 0 {
-            tails.insert(vertex);
-        }
+    let mut tails = ArrayVec::new();
+    for _ in 0..size {
+        tails.push(Marks::new());
     }
     tails
 }
 
-// For each vertex, as a head, the set of its tails.
+// Adds a vertex to the tails of a head that it is joined to.
+fn add_tail<G: Graph>(graph: &G, vertex: usize, head: usize, tails: &mut Marks)
+    ensures { (t : ℕ) → marked tails.new t ≡ (marked tails.old t || (t == vertex && joined (G.Graph.edges graph.now) t head)) }
+{
+    if graph.kinds(vertex, head) != 0 {
+        tails.insert(vertex);
+    }
+}
+
+// Adds a vertex to the tails of each head that it is joined to. By the number of the head: as `iter_mut().enumerate()` each look at a table
+// took a third more instructions.
+fn add_tails<G: Graph>(graph: &G, vertex: usize, tails: &mut [Marks])
+    requires { length tails.old ≡ G.Graph.vertices graph.now }
+    ensures { (t h : ℕ) → tail tails.new t h ≡ (tail tails.old t h || (t == vertex && joined (G.Graph.edges graph.now) t h)) }
+{
+    for head in 0..graph.size() {
+        add_tail(graph, vertex, head, &mut tails[head]);
+    }
+}
+
+// For each vertex, as a head, the set of its tails. Goes by tails, in the order in which a table holds its bytes.
 fn tails_of<G: Graph>(graph: &G) -> ArrayVec<Marks, 256>
     ensures each { length result.items ≡ G.Graph.vertices graph.now }
     ensures tails { (t h : ℕ) → tail result.items t h ≡ joined (G.Graph.edges graph.now) t h }
 {
-    let mut tails = ArrayVec::new();
-    for head in 0..graph.size() {
-        tails.push(tails_at(graph, head));
+    let mut tails = no_tails(graph.size());
+    for vertex in 0..graph.size() {
+        add_tails(graph, vertex, tails.as_mut_slice());
     }
     tails
 }
